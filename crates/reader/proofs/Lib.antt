@@ -1,0 +1,4 @@
+pub mod Answers
+pub mod Floats
+pub mod Printed
+pub mod Accepted

@@ -1,0 +1,13 @@
+pub mod Bytes
+pub mod Kind
+pub mod Tree
+pub mod Syntax
+pub mod Keys
+pub mod Limits
+pub mod Fits
+pub mod Answer
+pub mod Read
+pub mod Table
+pub mod Meaning
+pub mod Canonical
+pub mod Reading

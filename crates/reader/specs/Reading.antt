@@ -1,0 +1,35 @@
+-- What the service of reading answers, and what it leaves in the lent table.
+use mathlib.Core.List.{List, _++_}
+use Prim.Native.Nat.{ℕ, _/_}
+use lib.ListN.{length, drop, replicate}
+use Rattle.reader.specs.Tree.{nodes, ordinals}
+use Rattle.reader.specs.Syntax.{Value, own}
+use Rattle.reader.specs.Answer.{Answer, ok, refused, _>>=_}
+use Rattle.reader.specs.Read.{read}
+use Rattle.reader.specs.Table.{width, flat, tableOf}
+
+-- "Room is the slice's length divided by six, rounded down."
+abbrev pub capacityOf : (table : List ℕ) → ℕ
+capacityOf t = length t / width
+
+-- "Reading returns the count of nodes and of numbers taken."
+pub record Counts : Type 0 where
+  pub nodes : ℕ
+  pub ordinals : ℕ
+
+unfoldable pub answer : (capacity : ℕ) → (source : List ℕ) → Answer Counts
+answer capacity source = do
+  v ← read capacity source
+  ok (record { nodes = nodes v; ordinals = ordinals own v })
+
+-- "Words after the last node keep what they held."
+abbrev pub over : (words table : List ℕ) → List ℕ
+over ws t = ws ++ drop (length ws) t
+
+-- "A refusal … makes every word of the table zero"
+abbrev pub filled : Answer Value → (table : List ℕ) → List ℕ
+filled (ok v) t = over (flat (tableOf v)) t
+filled (refused n p) t = replicate (length t) 0
+
+unfoldable pub tableAfter : (source table : List ℕ) → List ℕ
+tableAfter source t = filled (read (capacityOf t) source) t

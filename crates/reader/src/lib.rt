@@ -1,0 +1,2 @@
+// Reading of PHP-serialized values.
+pub fn nothing() {}
