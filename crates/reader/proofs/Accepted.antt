@@ -1,7 +1,7 @@
 -- What reading accepts is the print of a syntax that fits. Assumes nothing.
 use mathlib.Core.Path.{_≡_, refl, sym, ap, ap₂, _∙_, subst}
 use mathlib.Core.List.{List, [], _∷_, _++_}
-use mathlib.Core.Bool.{Bool, true, false, _&&_, _||_, not}
+use mathlib.Core.Bool.{Bool, _&&_, _||_, not}
 use Prim.Native.Nat.{ℕ, zero, suc, _+_, _-_, _≤_, _<_}
 use native.Mathlib.Omega.{arith}
 use lib.Dec.{T, ltb, leb, eqb, ltb→lt, leb→le, eqb→eq}
@@ -12,15 +12,15 @@ use Rattle.decimal.proofs.Decide.{Test, passed, failed, test, T-of, and-left, a
 use Rattle.decimal.proofs.Numerals.{digits-are, digits-split, spelling, spelled-length}
 use Rattle.reader.specs.Bytes.{byte, bytes, isEmpty, sameBytes}
 use Rattle.reader.specs.Kind.{Kind, kinds, tag, keyKinds}
-use Rattle.reader.specs.Tree.{leaf, ref, branch, none, pair, count, nodes, nodesIn}
-use Rattle.reader.specs.Syntax.{KeyOf, intKey, stringKey, null, bool, int, float, string, array, object, Spelling, Sign, Literal, Quoted, Key, Scalar, Container, RefKind, objectRef, variableRef, refKind, Reference, Value, Values, writeNumber, writeSign, writeQuoted, writeInt, writeString, writeKey, bit, writeScalar, writeContainer, write, writePairs, print}
+use Rattle.reader.specs.Tree.{leaf, ref, count, nodes, nodesIn}
+use Rattle.reader.specs.Syntax.{intKey, stringKey, null, bool, int, float, string, array, object, Spelling, Sign, Literal, Quoted, Key, Scalar, Container, RefKind, objectRef, variableRef, refKind, Reference, Value, Values, writeNumber, writeSign, writeQuoted, writeInt, writeString, writeKey, bit, writeScalar, writeContainer, write, writePairs, print}
 use Rattle.reader.specs.Keys.{hasKey}
 use Rattle.reader.specs.Limits.{numberLimit, sourceLimit, depthLimit, integerLimit, signOf, isFloat, Seen, unseen, seeBranch, see}
 use Rattle.reader.specs.Fits.{IntFits, QuotedFits, KeyFits, ScalarFits, ContainerFits, allowed, Sound, SoundIn, Limited, LimitedIn, Backward, BackwardIn, Shallow, ShallowIn, Fits}
-use Rattle.reader.specs.Answer.{Answer, ok, refused, _>>=_, require}
+use Rattle.reader.specs.Answer.{ok, _>>=_, require}
 use Rattle.reader.specs.Read.{kindOf, tagOf, expect, digits, number, quoted, intText, stringText, boolText, untilSemicolon, floatText, referenceText, objectText, Setting, setting, position, isArray, keyText, Inner, readKey, readPairs, readBranch, readBody, readValue, read}
 use Rattle.reader.proofs.Answers.{ok-same, not-both, bind-ok, require-ok}
-use Rattle.reader.proofs.Floats.{empty-ok, same-bytes, or-cases, sign-split, until-split}
+use Rattle.reader.proofs.Floats.{empty-ok, sign-split, until-split}
 
 -- ---- tags
 kind-ok : (js : List Kind) (code at b : ℕ) (k : Kind) → kindOf js code at b ≡ ok k → b ≡ tag k

@@ -2,14 +2,14 @@
 use mathlib.Core.Path.{_≡_, refl, sym, ap, subst}
 use mathlib.Core.List.{List, [], _∷_, _++_}
 use mathlib.Core.Bool.{Bool, true, false, _&&_, _||_, not}
-use Prim.Native.Nat.{ℕ, _+_, _≤_, _<_}
+use Prim.Native.Nat.{ℕ, _+_, _≤_}
 use native.Mathlib.Omega.{arith}
 use lib.Dec.{T, ltb, eqb, eqb→eq}
 use lib.ListN.{length, drop}
 use borrow.Author.Tests.{ne-eqb}
 use Rattle.decimal.specs.Digits.{isDigit, digitsOf, afterDigits}
-use Rattle.decimal.proofs.Decide.{Test, passed, failed, test, T-of, T-true, T-false, and-T, and-left, and-right}
-use Rattle.decimal.proofs.Numerals.{areDigits, digit-low, digit-high, digits-are, digits-split}
+use Rattle.decimal.proofs.Decide.{Test, passed, failed, test, T-of, T-false, and-T, and-left, and-right}
+use Rattle.decimal.proofs.Numerals.{areDigits, digit-high, digits-are, digits-split}
 use Rattle.reader.specs.Bytes.{byte, bytes, isEmpty, sameBytes}
 use Rattle.reader.specs.Syntax.{Sign, unsigned, plus, minus, writeSign}
 use Rattle.reader.specs.Limits.{signOf, isExponent, fractionOf, isDecimal, isFloat}

@@ -2,3 +2,14 @@ pub mod Answers
 pub mod Floats
 pub mod Printed
 pub mod Accepted
+pub mod Unique
+pub mod Maps
+pub mod Fronts
+pub mod Canonicals
+pub mod OneText
+pub mod Rows
+pub mod Places
+pub mod Tables
+pub mod CanonicalTables
+pub mod Worked
+pub mod Tags

@@ -1,24 +1,24 @@
 -- Reading what was printed gives back the syntax that was printed. Assumes nothing.
 use mathlib.Core.Path.{_≡_, refl}
 use mathlib.Core.List.{List, [], _∷_, _++_}
-use mathlib.Core.Bool.{Bool, true, false, _&&_, not}
+use mathlib.Core.Bool.{true, false, not}
 use Prim.Native.Nat.{ℕ, zero, suc, _+_, _-_, _≤_, _<_}
 use native.Mathlib.Omega.{arith}
-use lib.Dec.{T, ltb, leb, eqb}
-use lib.ListN.{length, take, drop, length-append}
+use lib.Dec.{T}
+use lib.ListN.{length, length-append}
 use lib.Seq.{take-append-seam, drop-append-seam}
 use borrow.Author.Tests.{lt-ltb, le-leb, ne-eqb}
 use Rattle.decimal.specs.Digits.{isDigit, decimal, spelled}
-use Rattle.decimal.proofs.Decide.{T-true, and-left, and-right}
+use Rattle.decimal.proofs.Decide.{T-true, and-left}
 use Rattle.decimal.proofs.Numerals.{areDigits, digit-low, digits-before, after-before, value-spelled, spelled-digits, spelled-some, spelled-length}
-use Rattle.reader.specs.Bytes.{byte, bytes}
+use Rattle.reader.specs.Bytes.{byte}
 use Rattle.reader.specs.Kind.{tag}
 use Rattle.reader.specs.Tree.{leaf, ref, branch, none, pair, count, nodes, nodesIn}
 use Rattle.reader.specs.Syntax.{intKey, stringKey, null, bool, int, float, string, array, object, Spelling, Sign, unsigned, plus, minus, Literal, Quoted, Key, Scalar, Container, Head, RefKind, objectRef, variableRef, refKind, Reference, Value, Values, writeNumber, writeSign, writeQuoted, writeKey, writeScalar, writeContainer, write, writePairs, print}
 use Rattle.reader.specs.Keys.{hasKey}
 use Rattle.reader.specs.Limits.{numberLimit, sourceLimit, depthLimit, integerLimit, signOf, isFloat, Seen, unseen, seeBranch, see}
-use Rattle.reader.specs.Fits.{IntFits, QuotedFits, KeyFits, ScalarFits, ContainerFits, allowed, Sound, SoundIn, Limited, LimitedIn, Backward, BackwardIn, Shallow, ShallowIn, Valid, Fits}
-use Rattle.reader.specs.Answer.{Answer, ok}
+use Rattle.reader.specs.Fits.{IntFits, QuotedFits, KeyFits, ScalarFits, ContainerFits, allowed, Sound, SoundIn, Limited, LimitedIn, Backward, BackwardIn, Shallow, ShallowIn, Fits}
+use Rattle.reader.specs.Answer.{ok}
 use Rattle.reader.specs.Read.{digits, number, quoted, intText, stringText, boolText, floatText, referenceText, objectText, Setting, setting, position, keyText, Inner, readKey, readPairs, readBranch, readBody, readValue, read}
 use Rattle.reader.proofs.Floats.{float-semicolon, until-semicolon}
 

@@ -42,4 +42,4 @@ mayBeKey b = isTagOf (keyKinds true) b
 
 -- "d, s: offset of the text. O: offset of the class name."
 abbrev pub hasText : ℕ → Bool
-hasText b = isTagOf (float ∷ string ∷ object ∷ []) b
+hasText b = isTagOf (object ∷ float ∷ string ∷ []) b

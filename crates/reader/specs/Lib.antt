@@ -10,4 +10,6 @@ pub mod Read
 pub mod Table
 pub mod Meaning
 pub mod Canonical
+pub mod Shows
 pub mod Reading
+pub mod Cases

@@ -6,7 +6,8 @@ use lib.ListN.{length, getD}
 use Rattle.decimal.specs.Complement.{pattern}
 use Rattle.reader.specs.Kind.{Kind, tag, hasText}
 use Rattle.reader.specs.Tree.{leaf, ref, branch, none, pair, count, nodes, nodesIn, ordinals, one, only}
-use Rattle.reader.specs.Syntax.{intKey, stringKey, null, bool, int, float, string, array, object, Sign, unsigned, plus, minus, Literal, Quoted, Key, Scalar, Container, refKind, Reference, Value, Values, own, write, writeKey, writeNumber, writeContainer}
+use Rattle.reader.specs.Keys.{Integer, nonneg, negsuc, integer}
+use Rattle.reader.specs.Syntax.{intKey, stringKey, null, bool, int, float, string, array, object, Quoted, Key, Scalar, Container, refKind, Reference, Value, Values, own, write, writeKey, writeNumber, writeContainer}
 
 -- words 0 to 5 of a node
 pub record Node : Type 0 where
@@ -28,14 +29,10 @@ abbrev pub flat : List Node → List ℕ
 flat [] = []
 flat (n ∷ ns) = words n ++ flat ns
 
-abbrev pub isMinus : Sign → Bool
-isMinus unsigned = false
-isMinus plus = false
-isMinus minus = true
-
 -- "i: the integer's two's complement pattern"
-abbrev pub wordOf : Literal → ℕ
-wordOf x = pattern 64 (isMinus (x .sign)) (x .magnitude)
+abbrev pub word : Integer → ℕ
+word (nonneg n) = pattern 64 false n
+word (negsuc n) = pattern 64 true (suc n)
 
 -- where a quoted text begins behind a tag at `o`: tag, colon, length, colon, quote
 abbrev pub textOffset : (o : ℕ) → Quoted → ℕ
@@ -47,13 +44,13 @@ single k n content size i = record { tag = tag k; ordinal = n; content = content
 
 -- "Two things take none: keys …": word 1 is 0
 abbrev pub keyNode : (o i : ℕ) → Key → Node
-keyNode o i (intKey x) = single Kind.int 0 (wordOf x) 0 i
+keyNode o i (intKey x) = single Kind.int 0 (word (integer x)) 0 i
 keyNode o i (stringKey q) = single Kind.string 0 (textOffset o q) (length (q .text)) i
 
 abbrev pub scalarNode : (o i n : ℕ) → Scalar → Node
 scalarNode o i n null = single Kind.null n 0 0 i
 scalarNode o i n (bool b) = single Kind.bool n (one b) 0 i
-scalarNode o i n (int x) = single Kind.int n (wordOf x) 0 i
+scalarNode o i n (int x) = single Kind.int n (word (integer x)) 0 i
 scalarNode o i n (float t) = single Kind.float n (o + 2) (length t) i
 scalarNode o i n (string q) = single Kind.string n (textOffset o q) (length (q .text)) i
 

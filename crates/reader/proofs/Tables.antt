@@ -1,0 +1,287 @@
+-- The table says the meaning, each reference resolved. Assumes nothing.
+use mathlib.Core.Path.{_≡_, refl, sym, ap, ap₂, _∙_}
+use mathlib.Core.List.{List, [], _∷_, _++_, map, map-append, append-nil, nil≢cons, head-eq-of-cons-eq, tail-eq-of-cons-eq}
+use mathlib.Core.Bool.{Bool, true, false}
+use Prim.Native.Nat.{ℕ, zero, suc, _+_, _-_, _≤_}
+use native.Mathlib.Omega.{arith}
+use lib.Dec.{eqb, eqb→eq}
+use Rattle.decimal.proofs.Decide.{Test, passed, failed, test, T-of}
+use lib.ListN.{length, getD, take, drop, List·getD-map}
+use Rattle.reader.specs.Kind.{Kind, tag}
+use Rattle.reader.specs.Tree.{leaf, ref, branch, none, pair, TreePath, count, nodes, nodesIn, only, one, ordinals, ordinalsIn, paths, pathsIn, mapTree, mapPairs}
+use Rattle.reader.specs.Syntax.{intKey, stringKey, null, bool, int, float, string, array, object, Spelling, Key, Scalar, Container, RefKind, objectRef, variableRef, Reference, Value, Values, own, writeKey, writeScalar, writeContainer, writeNumber, write, writePairs, print}
+use Rattle.reader.specs.Keys.{keyMeaning}
+use Rattle.reader.specs.Fits.{Valid}
+use Rattle.reader.specs.Meaning.{meaning, scalarMeaning, headMeaning, referenceMeaning}
+use Rattle.reader.specs.Table.{Node, single, keyNode, scalarNode, branchNode, taken, refNode, table, indices, indicesIn, targetOf, tableOf}
+use Rattle.reader.specs.Shows.{numbersOf, upFrom, nodeAt, pairAt, follow, Row, Numbered, Text, ShowsKey, ShowsScalar, ShowsHead, Taking, ShowsReference, Shows, ShowsIn}
+use Rattle.reader.proofs.Maps.{Refs, RefsIn, refs-map, count-map, nodesIn-map}
+use Rattle.reader.proofs.OneText.{Taken, refs-taken}
+use Rattle.reader.proofs.Rows.{at-first, up-append, up-at, scalar-ordinal, branch-ordinal, table-numbers}
+use Rattle.reader.proofs.Places.{InTable, PairsInTable, contents-in, first-in, others-in, contents-text, value-text, others-text, quoted-text, float-text}
+
+module _ (rows : List Node) (to : ℕ → ℕ) where
+  -- ---- the first node of a value
+  abbrev firstNode : (o i n : ℕ) → Value → Node
+  firstNode o i n (leaf x) = scalarNode o i n x
+  firstNode o i n (ref r) = refNode (to (r .ordinal)) i n r
+  firstNode o i n (branch h ps) = branchNode o n (h .container) (count ps) (i + suc (nodesIn ps))
+
+  node-is : (v : Value) (o i n : ℕ) → InTable rows to o i n v → nodeAt rows i ≡ firstNode o i n v
+  node-is (leaf x) o i n t = at-first rows i (scalarNode o i n x) (t .rest) _ (t .here)
+  node-is (ref r) o i n t = at-first rows i (refNode (to (r .ordinal)) i n r) (t .rest) _ (t .here)
+  node-is (branch h ps) o i n t = at-first rows i (firstNode o i n (branch h ps)) _ _ (t .here)
+
+  scalar-end : (o i n : ℕ) (x : Scalar) → scalarNode o i n x .end ≡ suc i
+  scalar-end o i n null = refl
+  scalar-end o i n (bool b) = refl
+  scalar-end o i n (int x) = refl
+  scalar-end o i n (float t) = refl
+  scalar-end o i n (string q) = refl
+
+  branch-end : (o n : ℕ) (c : Container) (pairs e : ℕ) → branchNode o n c pairs e .end ≡ e
+  branch-end o n array pairs e = refl
+  branch-end o n (object q) pairs e = refl
+
+  first-end : (v : Value) (o i n : ℕ) → firstNode o i n v .end ≡ i + nodes v
+  first-end (leaf x) o i n = scalar-end o i n x ∙ omega arith
+  first-end (ref r) o i n = omega arith
+  first-end (branch h ps) o i n = branch-end o n (h .container) (count ps) (i + suc (nodesIn ps))
+
+  -- word 5: "index of the first node after this one and all it holds"
+  end-is : (v : Value) (o i n : ℕ) → InTable rows to o i n v → nodeAt rows i .end ≡ i + nodes v
+  end-is v o i n t = ap (λ (x : Node). x .end) (node-is v o i n t) ∙ first-end v o i n
+
+  -- ---- following the paths of the numbered values leads to the nodes that carry the numbers
+  map-only : (b : Bool) (i : ℕ) → map (follow rows i) (only b []) ≡ only b i
+  map-only true i = refl
+  map-only false i = refl
+
+  map-through : (i q : ℕ) (xs : List TreePath) → map (follow rows i) (map (λ (a : TreePath). q ∷ a) xs) ≡ map (follow rows (suc (pairAt rows (suc i) q))) xs
+  map-through i q [] = refl
+  map-through i q (x ∷ xs) = ap {B = List ℕ} (λ l. follow rows (suc (pairAt rows (suc i) q)) x ∷ l) (map-through i q xs)
+
+  mutual
+    paths-lead : (v : Value) (o i n : ℕ) → InTable rows to o i n v → map (follow rows i) (paths own v) ≡ indices i v
+    paths-lead (leaf x) o i n t = refl
+    paths-lead (ref r) o i n t = map-only (own r) i
+    paths-lead (branch h ps) o i n t = ap {B = List ℕ} (λ l. i ∷ l)
+        (pathsIn-lead ps (o + length (writeContainer (h .container) (writeNumber (h .spelling) (count ps) [])) + 2) i (suc i) 0 (suc n) (contents-in rows to o i n h ps t) refl)
+
+    -- of the pairs of the value at node i, those from place q on, which begin at node j
+    pathsIn-lead : (ps : Values) (o i j q n : ℕ) → PairsInTable rows to o j n ps → pairAt rows (suc i) q ≡ j → map (follow rows i) (pathsIn own q ps) ≡ indicesIn j ps
+    pathsIn-lead none o i j q n t e = refl
+    pathsIn-lead (pair k v ps) o i j q n t e =
+        let f = first-in rows to o j n k v ps t in
+        let next : pairAt rows (suc i) (suc q) ≡ suc (j + nodes v) =
+        ap (λ (m : ℕ). nodeAt rows (suc m) .end) e ∙ end-is v (o + length (writeKey k [])) (suc j) n f ∙ omega arith in
+        map-append (follow rows i) (map (λ (a : TreePath). q ∷ a) (paths own v)) (pathsIn own (suc q) ps)
+        ∙ ap₂ _++_ (map-through i q (paths own v) ∙ ap (λ (m : ℕ). map (follow rows (suc m)) (paths own v)) e ∙ paths-lead v (o + length (writeKey k [])) (suc j) n f)
+        (pathsIn-lead ps (o + length (writeKey k (write v []))) i (suc (j + nodes v)) (suc q) (n + ordinals own v) (others-in rows to o j n k v ps t) next)
+
+  -- ---- the nodes at the indices carry the ordinals
+  abbrev ordinalAt : ℕ → ℕ
+  ordinalAt i = nodeAt rows i .ordinal
+
+  only-ordinal : (b : Bool) (i n : ℕ) → ordinalAt i ≡ taken b n → map ordinalAt (only b i) ≡ upFrom n (one b)
+  only-ordinal true i n e = ap (λ (m : ℕ). m ∷ []) e
+  only-ordinal false i n e = refl
+
+  mutual
+    indices-carry : (v : Value) (o i n : ℕ) → InTable rows to o i n v → map ordinalAt (indices i v) ≡ upFrom n (ordinals own v)
+    indices-carry (leaf x) o i n t = only-ordinal true i n (ap (λ (y : Node). y .ordinal) (node-is (leaf x) o i n t) ∙ scalar-ordinal o i n x)
+    indices-carry (ref r) o i n t = only-ordinal (own r) i n (ap (λ (y : Node). y .ordinal) (node-is (ref r) o i n t))
+    indices-carry (branch h ps) o i n t =
+        ap₂ {C = List ℕ} _∷_ (ap (λ (y : Node). y .ordinal) (node-is (branch h ps) o i n t) ∙ branch-ordinal o n (h .container) (count ps) (i + suc (nodesIn ps)))
+        (indicesIn-carry ps (o + length (writeContainer (h .container) (writeNumber (h .spelling) (count ps) [])) + 2) (suc i) (suc n) (contents-in rows to o i n h ps t))
+
+    indicesIn-carry : (ps : Values) (o i n : ℕ) → PairsInTable rows to o i n ps → map ordinalAt (indicesIn i ps) ≡ upFrom n (ordinalsIn own ps)
+    indicesIn-carry none o i n t = refl
+    indicesIn-carry (pair k v ps) o i n t =
+        map-append ordinalAt (indices (suc i) v) (indicesIn (suc (i + nodes v)) ps)
+        ∙ ap₂ _++_ (indices-carry v (o + length (writeKey k [])) (suc i) n (first-in rows to o i n k v ps t))
+        (indicesIn-carry ps (o + length (writeKey k (write v []))) (suc (i + nodes v)) (n + ordinals own v) (others-in rows to o i n k v ps t))
+        ∙ sym (up-append n (ordinals own v) (ordinalsIn own ps))
+
+  -- ---- what the nodes show
+  row-single : (i : ℕ) (k : Kind) (n c s : ℕ) → nodeAt rows i ≡ single k n c s i → Row rows i k s 0 (suc i)
+  row-single i k n c s e =
+      record { tag = ap (λ (x : Node). x .tag) e; size = ap (λ (x : Node). x .size) e; link = ap (λ (x : Node). x .link) e; end = ap (λ (x : Node). x .end) e }
+
+  numbered : (i n : ℕ) → ordinalAt i ≡ n → 1 ≤ n → Numbered rows i
+  numbered i n e h = omega arith
+
+module _ (source : List ℕ) (rows : List Node) (to : ℕ → ℕ) where
+  -- a text at the offset that the node has
+  text-shown : (i o : ℕ) (t : List ℕ) → nodeAt rows i .content ≡ o → take (length t) (drop o source) ≡ t → Text source rows i t
+  text-shown i o t e h = ap (λ (j : ℕ). take (length t) (drop j source)) e ∙ h
+
+  key-shown : (k : Key) (o i : ℕ) (r : List ℕ) → nodeAt rows i ≡ keyNode o i k → drop o source ≡ writeKey k r → ShowsKey source rows i (keyMeaning k)
+  key-shown (intKey x) o i r e s = (row-single rows to i Kind.int 0 _ 0 e, ap (λ (y : Node). y .ordinal) e, ap (λ (y : Node). y .content) e)
+  key-shown (stringKey q) o i r e s =
+      (row-single rows to i Kind.string 0 _ _ e, ap (λ (y : Node). y .ordinal) e, text-shown i _ (q .text) (ap (λ (y : Node). y .content) e) (quoted-text source o 115 q (59 ∷ r) s))
+
+  scalar-shown : (x : Scalar) (o i n : ℕ) (r : List ℕ) → nodeAt rows i ≡ scalarNode o i n x → 1 ≤ n → drop o source ≡ writeScalar x r → ShowsScalar source rows i (scalarMeaning x)
+  scalar-shown null o i n r e h s = (row-single rows to i Kind.null n _ 0 e, numbered rows to i n (ap (λ (y : Node). y .ordinal) e) h, ap (λ (y : Node). y .content) e)
+  scalar-shown (bool b) o i n r e h s = (row-single rows to i Kind.bool n _ 0 e, numbered rows to i n (ap (λ (y : Node). y .ordinal) e) h, ap (λ (y : Node). y .content) e)
+  scalar-shown (int x) o i n r e h s = (row-single rows to i Kind.int n _ 0 e, numbered rows to i n (ap (λ (y : Node). y .ordinal) e) h, ap (λ (y : Node). y .content) e)
+  scalar-shown (float t) o i n r e h s = (
+    row-single rows to i Kind.float n _ _ e,
+    numbered rows to i n (ap (λ (y : Node). y .ordinal) e) h,
+    text-shown i _ t (ap (λ (y : Node). y .content) e) (float-text source o 100 t r s),
+  )
+  scalar-shown (string q) o i n r e h s = (
+    row-single rows to i Kind.string n _ _ e,
+    numbered rows to i n (ap (λ (y : Node). y .ordinal) e) h,
+    text-shown i _ (q .text) (ap (λ (y : Node). y .content) e) (quoted-text source o 115 q (59 ∷ r) s),
+  )
+
+  head-shown : (c : Container) (w : Spelling) (o i n pairs e : ℕ) (r : List ℕ) → nodeAt rows i ≡ branchNode o n c pairs e → 1 ≤ n → drop o source ≡ writeContainer c r
+      → ShowsHead source rows i pairs e (headMeaning (record { container = c; spelling = w }))
+  head-shown array w o i n pairs e r p h s = (
+    record { tag = ap (λ (x : Node). x .tag) p; size = ap (λ (x : Node). x .size) p; link = ap (λ (x : Node). x .link) p; end = ap (λ (x : Node). x .end) p },
+    numbered rows to i n (ap (λ (y : Node). y .ordinal) p) h,
+    ap (λ (y : Node). y .content) p,
+  )
+  head-shown (object q) w o i n pairs e r p h s = (
+    record { tag = ap (λ (x : Node). x .tag) p; size = ap (λ (x : Node). x .size) p; link = ap (λ (x : Node). x .link) p; end = ap (λ (x : Node). x .end) p },
+    numbered rows to i n (ap (λ (y : Node). y .ordinal) p) h,
+    text-shown i _ (q .text) (ap (λ (y : Node). y .content) p) (quoted-text source o 79 q (58 ∷ r) s),
+  )
+
+  -- what the references need: where `env` gives the paths of the ordinals
+  module _ (env : List TreePath) where
+    pub record Resolved (r : Reference) : Type 0 where
+      pub leads : to (r .ordinal) ≡ follow rows 0 (getD env (r .ordinal - 1) [])
+      pub carries : ordinalAt rows to (to (r .ordinal)) ≡ r .ordinal
+      pub least : 1 ≤ r .ordinal
+
+    taking : (k : RefKind) (i n : ℕ) → 1 ≤ n → ordinalAt rows to i ≡ taken (own (record { kind = k; spelling = record { zeros = 0 }; ordinal = 0 })) n → Taking rows k i
+    taking objectRef i n h e = omega arith
+    taking variableRef i n h e = e
+
+    reference-shown : (r : Reference) (i n : ℕ) → nodeAt rows i ≡ refNode (to (r .ordinal)) i n r → 1 ≤ n → Resolved r → ShowsReference rows i (referenceMeaning env r)
+    reference-shown r i n e h g =
+        let link : nodeAt rows i .link ≡ to (r .ordinal) = ap (λ (x : Node). x .link) e in
+        let content : nodeAt rows i .content ≡ r .ordinal = ap (λ (x : Node). x .content) e in
+        record {
+          row = record { tag = ap (λ (x : Node). x .tag) e; size = ap (λ (x : Node). x .size) e; link = link ∙ g .leads; end = ap (λ (x : Node). x .end) e };
+          taking = taking (r .kind) i n h (ap (λ (x : Node). x .ordinal) e);
+          named = ap (ordinalAt rows to) link ∙ g .carries ∙ sym content;
+          number = omega (arith, g .least);
+        }
+
+    mutual
+      unfolding write
+
+      shows : (v : Value) (o i n : ℕ) (r : List ℕ) → InTable rows to o i n v → 1 ≤ n → drop o source ≡ write v r → Refs Resolved v
+          → Shows source rows i (mapTree keyMeaning scalarMeaning headMeaning (referenceMeaning env) v)
+      shows (leaf x) o i n r t h s g = scalar-shown x o i n r (node-is rows to (leaf x) o i n t) h s
+      shows (ref f) o i n r t h s g = reference-shown f i n (node-is rows to (ref f) o i n t) h g
+      shows (branch b ps) o i n r t h s g = (
+        rw (count-map keyMeaning scalarMeaning headMeaning (referenceMeaning env) ps, nodesIn-map keyMeaning scalarMeaning headMeaning (referenceMeaning env) ps)
+            (head-shown (b .container) (b .spelling) o i n (count ps) (i + suc (nodesIn ps)) (writeNumber (b .spelling) (count ps) (58 ∷ 123 ∷ writePairs ps (125 ∷ r))) (node-is rows to (branch b ps) o i n t) h s),
+        showsIn ps (o + length (writeContainer (b .container) (writeNumber (b .spelling) (count ps) [])) + 2) (suc i) (suc i) (suc n) (125 ∷ r) (contents-in rows to o i n b ps t) (omega arith)
+            (contents-text source o (b .container) (b .spelling) (count ps) (writePairs ps (125 ∷ r)) s) g refl,
+      )
+
+      -- the index is what the node before says
+      showsIn : (ps : Values) (o i j n : ℕ) (r : List ℕ) → PairsInTable rows to o i n ps → 1 ≤ n → drop o source ≡ writePairs ps r → RefsIn Resolved ps → j ≡ i
+          → ShowsIn source rows j (mapPairs keyMeaning scalarMeaning headMeaning (referenceMeaning env) ps)
+      showsIn none o i j n r t h s g e = tt
+      showsIn (pair k v ps) o i j n r t h s g e =
+          let f = first-in rows to o i n k v ps t in
+          let next : nodeAt rows (suc i) .end ≡ suc (i + nodes v) = end-is rows to v (o + length (writeKey k [])) (suc i) n f ∙ omega arith in
+          rw e (
+            key-shown k o i (write v (writePairs ps r)) (at-first rows i (keyNode o i k) _ _ (t .here)) s,
+            shows v (o + length (writeKey k [])) (suc i) n (writePairs ps r) f h (value-text source o k (write v (writePairs ps r)) s) (g .0),
+            showsIn ps (o + length (writeKey k (write v []))) (suc (i + nodes v)) (nodeAt rows (suc i) .end) (n + ordinals own v) r (others-in rows to o i n k v ps t) (omega arith) (others-text source o k v (writePairs ps r) s) (g .1) next,
+          )
+
+-- ---- the whole table
+module _ (v : Value) (f : Valid v) where
+  abbrev source : List ℕ
+  source = print v
+
+  abbrev rows : List Node
+  rows = table (targetOf v) 0 0 1 v
+
+  whole : InTable rows (targetOf v) 0 0 1 v
+  whole = record { rest = []; here = sym (append-nil rows) }
+
+  -- an ordinal that is taken resolves to the node at its path, which carries it
+  resolved : (r : Reference) → Taken (ordinals own v) r → Resolved source rows (targetOf v) (paths own v) r
+  resolved r t =
+      let k : ℕ = r .ordinal - 1 in
+      record {
+        leads = ap (λ (is : List ℕ). getD is k 0) (sym (paths-lead rows (targetOf v) v 0 0 1 whole)) ∙ List·getD-map (follow rows 0) (paths own v) k [];
+        carries = sym (List·getD-map (ordinalAt rows (targetOf v)) (indices 0 v) k 0) ∙ ap (λ (ns : List ℕ). getD ns k (ordinalAt rows (targetOf v) 0)) (indices-carry rows (targetOf v) v 0 0 1 whole)
+            ∙ up-at 1 (ordinals own v) k (ordinalAt rows (targetOf v) 0) (omega arith) ∙ omega arith;
+        least = t .0;
+      }
+
+  all-resolved : Refs (Resolved source rows (targetOf v) (paths own v)) v
+  all-resolved = refs-map (Taken (ordinals own v)) (Resolved source rows (targetOf v) (paths own v)) resolved v (refs-taken (ordinals own v) v 0 (f .backward) (omega arith))
+
+-- "The table then holds its one meaning, each reference resolved."
+pub table-says : (v : Value) → Valid v → Shows (print v) (tableOf v) 0 (meaning v)
+unfolding tableOf meaning
+table-says v f = shows (print v) (tableOf v) (targetOf v) (paths own v) v 0 0 1 [] (whole v f) (omega arith) refl (all-resolved v f)
+
+-- "Each value takes the next number, from 1, when its letter is met." The words 1 that are not 0 are 1, 2, 3 … in table order.
+pub numbers-in-order : (v : Value) → numbersOf (tableOf v) ≡ upFrom 1 (ordinals own v)
+unfolding tableOf
+numbers-in-order v = table-numbers (targetOf v) v 0 0 1 (omega arith)
+
+-- ---- one node carries a number
+data Step (x : Node) (rows : List Node) (n : ℕ) : Type 0 where
+  passes : x .ordinal ≡ 0 → (c : ℕ) → numbersOf rows ≡ upFrom n c → Step x rows n
+  takes : x .ordinal ≡ n → (c : ℕ) → numbersOf rows ≡ upFrom (suc n) c → Step x rows n
+
+takes-one : (x : Node) (rows : List Node) (n c : ℕ) → x .ordinal ∷ numbersOf rows ≡ upFrom n c → Step x rows n
+takes-one x rows n zero e = absurd (nil≢cons (sym e))
+takes-one x rows n (suc c) e = takes (head-eq-of-cons-eq e) c (tail-eq-of-cons-eq e)
+
+step : (x : Node) (rows : List Node) (n c : ℕ) → numbersOf (x ∷ rows) ≡ upFrom n c → Step x rows n
+step x rows n c e = go (test (eqb (x .ordinal) 0))
+  where
+    go : Test (eqb (x .ordinal) 0) → Step x rows n
+    go (passed t) = passes (eqb→eq (x .ordinal) 0 (T-of t)) c (rw (t, numbersOf) at e)
+    go (failed t) = takes-one x rows n c (rw (t, numbersOf) at e)
+
+later : (rows : List Node) (n c i : ℕ) → numbersOf rows ≡ upFrom n c → 1 ≤ nodeAt rows i .ordinal → n ≤ nodeAt rows i .ordinal
+later [] n c i e h = absurd (omega arith)
+later (x ∷ rows) n c zero e h = go (step x rows n c e)
+  where
+    go : Step x rows n → n ≤ x .ordinal
+    go (passes z d s) = absurd (omega arith)
+    go (takes z d s) = omega arith
+later (x ∷ rows) n c (suc i) e h = go (step x rows n c e) (λ m d s. later rows m d i s h)
+  where
+    go : Step x rows n → ((m d : ℕ) → numbersOf rows ≡ upFrom m d → m ≤ nodeAt rows i .ordinal) → n ≤ nodeAt rows i .ordinal
+    go (passes z d s) r = r n d s
+    go (takes z d s) r = let k = r (suc n) d s in omega arith
+
+-- the node that carries a number is the only one
+once : (rows : List Node) (n c i j : ℕ) → numbersOf rows ≡ upFrom n c → 1 ≤ nodeAt rows i .ordinal → nodeAt rows i .ordinal ≡ nodeAt rows j .ordinal → i ≡ j
+once [] n c i j e h s = absurd (omega arith)
+once (x ∷ rows) n c zero zero e h s = refl
+once (x ∷ rows) n c zero (suc j) e h s = go (step x rows n c e)
+  where
+    go : Step x rows n → zero ≡ suc j
+    go (passes z d t) = absurd (omega arith)
+    go (takes z d t) = absurd (omega (arith, later rows (suc n) d j t (omega arith)))
+once (x ∷ rows) n c (suc i) zero e h s = go (step x rows n c e)
+  where
+    go : Step x rows n → suc i ≡ zero
+    go (passes z d t) = absurd (omega arith)
+    go (takes z d t) = absurd (omega (arith, later rows (suc n) d i t h))
+once (x ∷ rows) n c (suc i) (suc j) e h s = go (step x rows n c e) (λ m d t. once rows m d i j t h s)
+  where
+    go : Step x rows n → ((m d : ℕ) → numbersOf rows ≡ upFrom m d → i ≡ j) → suc i ≡ suc j
+    go (passes z d t) r = ap suc (r n d t)
+    go (takes z d t) r = ap suc (r (suc n) d t)
+
+-- "index of the node named": no other node has that number in word 1
+pub one-carrier : (v : Value) (i j : ℕ) → 1 ≤ nodeAt (tableOf v) i .ordinal → nodeAt (tableOf v) i .ordinal ≡ nodeAt (tableOf v) j .ordinal → i ≡ j
+one-carrier v i j h e = once (tableOf v) 1 (ordinals own v) i j (numbers-in-order v) h e

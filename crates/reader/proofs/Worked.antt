@@ -1,0 +1,15 @@
+-- The worked cases of paper 01 hold of the definitions, by computation. Assumes nothing.
+use mathlib.Core.Bool.{_&&_}
+use lib.Dec.{T}
+use Rattle.decimal.specs.Digits.{decimal, decimalIn}
+use Rattle.reader.specs.Syntax.{write}
+use Rattle.reader.specs.Limits.{isFloat}
+use Rattle.reader.specs.Read.{digits, number, quoted, intText, stringText, boolText, floatText, referenceText, objectText, keyText, readKey, readBranch, readBody, read}
+use Rattle.reader.specs.Table.{tableOf}
+use Rattle.reader.specs.Canonical.{canonical}
+use Rattle.reader.specs.Cases.{shown, hold, starred, limits}
+
+-- THE STARRED CASES, and what stands on either side of a limit
+pub worked : T (hold starred && hold limits)
+unfolding hold shown tableOf canonical read readBody readBranch readKey keyText digits number quoted intText stringText boolText floatText referenceText objectText isFloat decimal decimalIn write
+worked = tt

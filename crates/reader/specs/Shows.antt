@@ -1,0 +1,96 @@
+-- How a table is read: what its nodes and the plan's bytes say of a value, by the words that paper 01 lists.
+use mathlib.Core.Path.{_≡_}
+use mathlib.Core.List.{List, [], _∷_}
+use mathlib.Core.Bool.{true, false}
+use Prim.Native.Nat.{ℕ, zero, suc, _+_, _≤_}
+use lib.Dec.{eqb}
+use lib.ListN.{length, getD, take, drop}
+use Rattle.reader.specs.Kind.{Kind, tag}
+use Rattle.reader.specs.Tree.{Pairs, none, pair, leaf, ref, branch, TreePath, count, nodesIn, one}
+use Rattle.reader.specs.Syntax.{intKey, stringKey, null, bool, int, float, string, array, object, RefKind, objectRef, variableRef, refKind}
+use Rattle.reader.specs.Keys.{KeyMeaning}
+use Rattle.reader.specs.Meaning.{Meaning, ScalarMeaning, HeadMeaning, ReferenceMeaning}
+use Rattle.reader.specs.Table.{Node, word}
+
+-- the numbers taken, in table order: the words 1 that are not 0
+abbrev pub numbersOf : List Node → List ℕ
+numbersOf [] = []
+numbersOf (n ∷ ns) = elim (eqb (n .ordinal) 0) [ true ↦ numbersOf ns | false ↦ n .ordinal ∷ numbersOf ns ]
+
+-- so many numbers, from n on
+abbrev pub upFrom : (n count : ℕ) → List ℕ
+upFrom n zero = []
+upFrom n (suc c) = n ∷ upFrom (suc n) c
+
+module _ (rows : List Node) where
+  abbrev pub nodeAt : ℕ → Node
+  nodeAt i = getD rows i (record { tag = 0; ordinal = 0; content = 0; size = 0; link = 0; end = 0 })
+
+  -- of pairs that begin at node i, the node of the key at place q: a value's word 5 leads to the next pair
+  abbrev pub pairAt : (i q : ℕ) → ℕ
+  pairAt i zero = i
+  pairAt i (suc q) = nodeAt (suc (pairAt i q)) .end
+
+  -- from the value at node i, the node of the value at a path
+  abbrev pub follow : (i : ℕ) → TreePath → ℕ
+  follow i [] = i
+  follow i (q ∷ a) = follow (suc (pairAt (suc i) q)) a
+
+  -- words 0, 3, 4 and 5
+  pub record Row (i : ℕ) (k : Kind) (s l e : ℕ) : Type 0 where
+    pub tag : nodeAt i .tag ≡ tag k
+    pub size : nodeAt i .size ≡ s
+    pub link : nodeAt i .link ≡ l
+    pub end : nodeAt i .end ≡ e
+
+  -- word 1, and word 2
+  abbrev pub Numbered : ℕ → Type 0
+  Numbered i = 1 ≤ nodeAt i .ordinal
+
+  abbrev pub Unnumbered : ℕ → Type 0
+  Unnumbered i = nodeAt i .ordinal ≡ 0
+
+  abbrev pub Content : (i content : ℕ) → Type 0
+  Content i n = nodeAt i .content ≡ n
+
+  abbrev pub Taking : RefKind → ℕ → Type 0
+  Taking objectRef i = Numbered i
+  Taking variableRef i = Unnumbered i
+
+  -- word 4 is "index of the node named": the node at the path named, and it carries the number in word 2
+  pub record ShowsReference (i : ℕ) (r : ReferenceMeaning) : Type 0 where
+    pub row : Row i (refKind (r .kind)) 0 (follow 0 (r .names)) (suc i)
+    pub taking : Taking (r .kind) i
+    pub named : nodeAt (nodeAt i .link) .ordinal ≡ nodeAt i .content
+    pub number : 1 ≤ nodeAt i .content
+
+module _ (source : List ℕ) (rows : List Node) where
+  -- word 2 as the offset of a text
+  abbrev pub Text : (i : ℕ) → List ℕ → Type 0
+  Text i t = take (length t) (drop (nodeAt rows i .content) source) ≡ t
+
+  abbrev pub ShowsKey : (i : ℕ) → KeyMeaning → Type 0
+  ShowsKey i (intKey n) = Row rows i Kind.int 0 0 (suc i) × Unnumbered rows i × Content rows i (word n)
+  ShowsKey i (stringKey t) = Row rows i Kind.string (length t) 0 (suc i) × Unnumbered rows i × Text i t
+
+  abbrev pub ShowsScalar : (i : ℕ) → ScalarMeaning → Type 0
+  ShowsScalar i null = Row rows i Kind.null 0 0 (suc i) × Numbered rows i × Content rows i 0
+  ShowsScalar i (bool b) = Row rows i Kind.bool 0 0 (suc i) × Numbered rows i × Content rows i (one b)
+  ShowsScalar i (int n) = Row rows i Kind.int 0 0 (suc i) × Numbered rows i × Content rows i (word n)
+  ShowsScalar i (float t) = Row rows i Kind.float (length t) 0 (suc i) × Numbered rows i × Text i t
+  ShowsScalar i (string t) = Row rows i Kind.string (length t) 0 (suc i) × Numbered rows i × Text i t
+
+  abbrev pub ShowsHead : (i pairs end : ℕ) → HeadMeaning → Type 0
+  ShowsHead i n e array = Row rows i Kind.array 0 n e × Numbered rows i × Content rows i 0
+  ShowsHead i n e (object t) = Row rows i Kind.object (length t) n e × Numbered rows i × Text i t
+
+  -- the node of a value, then those of its pairs: each a key's and then a value's
+  abbrev mutual
+    pub Shows : (i : ℕ) → Meaning → Type 0
+    Shows i (leaf x) = ShowsScalar i x
+    Shows i (ref r) = ShowsReference rows i r
+    Shows i (branch h ps) = ShowsHead i (count ps) (i + suc (nodesIn ps)) h × ShowsIn (suc i) ps
+
+    pub ShowsIn : (i : ℕ) → Pairs KeyMeaning ScalarMeaning HeadMeaning ReferenceMeaning → Type 0
+    ShowsIn i none = Unit {0}
+    ShowsIn i (pair k v ps) = ShowsKey i k × Shows (suc i) v × ShowsIn (nodeAt rows (suc i) .end) ps
