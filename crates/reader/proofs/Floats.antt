@@ -13,7 +13,7 @@ use Rattle.decimal.proofs.Numerals.{areDigits, digit-high, digits-are, digits-s
 use Rattle.reader.specs.Bytes.{byte, bytes, isEmpty, sameBytes}
 use Rattle.reader.specs.Syntax.{Sign, unsigned, plus, minus, writeSign}
 use Rattle.reader.specs.Limits.{signOf, isExponent, fractionOf, isDecimal, isFloat}
-use Rattle.reader.specs.Read.{untilSemicolon}
+use Rattle.reader.specs.Read.{until}
 
 -- ---- texts, taken apart
 pub empty-ok : (s : List ℕ) → T (isEmpty s) → s ≡ []
@@ -45,18 +45,18 @@ abbrev pub noSemicolon : List ℕ → Bool
 noSemicolon [] = true
 noSemicolon (b ∷ s) = not (eqb (byte ";") b) && noSemicolon s
 
-pub until-semicolon : (t r : List ℕ) → T (noSemicolon t) → untilSemicolon (t ++ (byte ";" ∷ r)) ≡ t
+pub until-semicolon : (t r : List ℕ) → T (noSemicolon t) → until (byte ";") (t ++ (byte ";" ∷ r)) ≡ t
 until-semicolon [] r h = refl
 until-semicolon (b ∷ t) r h =
-    rw (T-false (eqb (byte ";") b) (and-left (not (eqb (byte ";") b)) (noSemicolon t) h), untilSemicolon, until-semicolon t r (and-right (not (eqb (byte ";") b)) (noSemicolon t) h))
+    rw (T-false (eqb (byte ";") b) (and-left (not (eqb (byte ";") b)) (noSemicolon t) h), until, until-semicolon t r (and-right (not (eqb (byte ";") b)) (noSemicolon t) h))
 
-pub until-split : (s : List ℕ) → s ≡ untilSemicolon s ++ drop (length (untilSemicolon s)) s
+pub until-split : (s : List ℕ) → s ≡ until (byte ";") s ++ drop (length (until (byte ";") s)) s
 until-split [] = refl
 until-split (b ∷ s) = go (test (eqb (byte ";") b)) (until-split s)
   where
-    go : Test (eqb (byte ";") b) → s ≡ untilSemicolon s ++ drop (length (untilSemicolon s)) s → b ∷ s ≡ untilSemicolon (b ∷ s) ++ drop (length (untilSemicolon (b ∷ s))) (b ∷ s)
-    go (passed t) r = rw (t, untilSemicolon)
-    go (failed t) r = rw (t, untilSemicolon) (ap {B = List ℕ} (λ x. b ∷ x) r)
+    go : Test (eqb (byte ";") b) → s ≡ until (byte ";") s ++ drop (length (until (byte ";") s)) s → b ∷ s ≡ until (byte ";") (b ∷ s) ++ drop (length (until (byte ";") (b ∷ s))) (b ∷ s)
+    go (passed t) r = rw (t, until)
+    go (failed t) r = rw (t, until) (ap {B = List ℕ} (λ x. b ∷ x) r)
 
 none-append : (s t : List ℕ) → T (noSemicolon s) → T (noSemicolon t) → T (noSemicolon (s ++ t))
 none-append [] t p q = q

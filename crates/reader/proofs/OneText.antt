@@ -1,4 +1,4 @@
--- "the one canonical text of that meaning": the canonical syntax is a function of the meaning. Assumes nothing.
+-- Demand 2, "the one canonical text of that meaning": the canonical syntax is a function of the meaning. Assumes nothing.
 use mathlib.Core.Path.{_≡_, refl, sym, ap, ap₂, _∙_}
 use mathlib.Core.Logic.{_↔_}
 use mathlib.Core.List.{List, [], _∷_, _++_, map}
@@ -17,7 +17,7 @@ use Rattle.reader.specs.Fits.{Backward, BackwardIn, Valid}
 use Rattle.reader.specs.Meaning.{Meaning, meaning, scalarMeaning, HeadMeaning, headMeaning, ReferenceMeaning, referenceMeaning}
 use Rattle.reader.specs.Canonical.{shortest, shortestInt, shortestQuoted, canonicalKey, canonicalScalar, canonicalHead, canonicalReference, canonical}
 use Rattle.reader.proofs.Maps.{Refs, RefsIn, paths-map, ordinals-map, map-map}
-use Rattle.reader.proofs.Canonicals.{canonical-valid, canonical-meaning}
+use Rattle.reader.proofs.NormalForm.{canonical-valid, canonical-meaning}
 use Rattle.reader.proofs.Unique.{unique}
 
 -- ---- lists
@@ -186,9 +186,13 @@ canonical-of-meaning v f =
         ap (λ (n : ℕ). record { kind = r .kind; spelling = shortest; ordinal = n })
         (ap suc (ap (λ (ps : List TreePath). rank ownMeaning (meaning v) (getD ps (r .ordinal - 1) [])) (sym same-paths) ∙ rank-path ownMeaning (meaning v) (r .ordinal - 1) (omega (arith, same-ordinals))) ∙ omega arith)
 
--- "the same for two plans exactly when their meanings are the same"
+-- ONE CANONICAL TEXT: the same for two plans exactly when their meanings are the same
 pub one-canonical-text : (v w : Value) → Valid v → Valid w → (print (canonical v) ≡ print (canonical w)) ↔ (meaning v ≡ meaning w)
 one-canonical-text v w f g = (
   λ e. sym (canonical-meaning v) ∙ ap meaning (unique (canonical v) (canonical w) (canonical-valid v f) (canonical-valid w g) e) ∙ canonical-meaning w,
   λ e. ap print (sym (canonical-of-meaning v f) ∙ ap canonicalOf e ∙ canonical-of-meaning w g),
 )
+
+-- canonical text of canonical text is itself
+pub canonical-twice : (v : Value) → Valid v → canonical (canonical v) ≡ canonical v
+canonical-twice v f = sym (canonical-of-meaning (canonical v) (canonical-valid v f)) ∙ ap canonicalOf (canonical-meaning v) ∙ canonical-of-meaning v f

@@ -223,7 +223,7 @@ module _ (v : Value) (f : Valid v) where
   all-resolved : Refs (Resolved source rows (targetOf v) (paths own v)) v
   all-resolved = refs-map (Taken (ordinals own v)) (Resolved source rows (targetOf v) (paths own v)) resolved v (refs-taken (ordinals own v) v 0 (f .backward) (omega arith))
 
--- "The table then holds its one meaning, each reference resolved."
+-- Demand 2: "The table then holds its one meaning, each reference resolved."
 pub table-says : (v : Value) → Valid v → Shows (print v) (tableOf v) 0 (meaning v)
 unfolding tableOf meaning
 table-says v f = shows (print v) (tableOf v) (targetOf v) (paths own v) v 0 0 1 [] (whole v f) (omega arith) refl (all-resolved v f)

@@ -12,9 +12,9 @@ use Rattle.reader.specs.Read.{read}
 use Rattle.reader.specs.Meaning.{Meaning, meaning, Means}
 use Rattle.reader.proofs.Answers.{ok-same, not-both}
 use Rattle.reader.proofs.Printed.{read-print}
-use Rattle.reader.proofs.Accepted.{Printed, read-ok}
+use Rattle.reader.proofs.Inversion.{Printed, read-ok}
 
--- "A plan is accepted exactly when it fits paper 01."
+-- Demand 2: "A plan is accepted exactly when it fits paper 01."
 pub accepted-exactly : (capacity : ℕ) (source : List ℕ) (v : Value) → (read capacity source ≡ ok v) ↔ Printed capacity source v
 accepted-exactly capacity source v = (read-ok capacity source v, λ p. ap (read capacity) (p .text) ∙ read-print capacity v (p .fits))
 
@@ -34,7 +34,7 @@ accepted-means capacity source v e =
     let p = read-ok capacity source v e in
     record { syntax = v; valid = p .fits .valid; printed = p .text; is = refl }
 
--- "Bad input is refused … and never otherwise": a plan that fits is not refused
+-- Demand 1, "Bad input is refused … and never otherwise": a plan that fits is not refused
 pub never-refused : (capacity : ℕ) (v : Value) (n p : ℕ) → Fits capacity v → read capacity (print v) ≡ refused n p → ⊥
 never-refused capacity v n p f e = not-both (sym e ∙ read-print capacity v f)
 

@@ -88,7 +88,7 @@ pub record Valid (v : Value) : Type 0 where
   pub sound : Sound v
   pub limited : Limited v
 
--- "A plan is accepted exactly when it fits paper 01": it is valid, and the table has room for its nodes.
+-- Demand 2, "A plan is accepted exactly when it fits paper 01": it is valid, and the table has room for its nodes.
 pub record Fits (capacity : ℕ) (v : Value) : Type 0 where
   pub valid : Valid v
   pub small : nodes v ≤ capacity

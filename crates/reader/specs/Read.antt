@@ -33,6 +33,11 @@ expect l [] s = ok s
 expect l (w ∷ ws) [] = refused 2 l
 expect l (w ∷ ws) (b ∷ s) = elim (eqb w b) [ true ↦ expect l ws s | false ↦ refused 2 l ]
 
+-- what stands before the next such byte
+abbrev pub until : (stop : ℕ) → List ℕ → List ℕ
+until stop [] = []
+until stop (b ∷ s) = elim (eqb stop b) [ true ↦ [] | false ↦ b ∷ until stop s ]
+
 -- "A run of digits is taken whole, then 5 is tested": its leading zeros and its value, at most `top`
 unfoldable pub digits : (l top : ℕ) → List ℕ → Answer ((ℕ × ℕ) × List ℕ)
 digits l top s = do
@@ -76,17 +81,13 @@ boolText l s = do
   s₂ ← expect l (bytes ";") (drop 1 s₁)
   ok (sameBytes (take 1 s₁) (bytes "1"), s₂)
 
--- what stands before the next `;`, which no float text holds
-abbrev pub untilSemicolon : List ℕ → List ℕ
-untilSemicolon [] = []
-untilSemicolon (b ∷ s) = elim (eqb (byte ";") b) [ true ↦ [] | false ↦ b ∷ untilSemicolon s ]
-
+-- no float text holds a `;`
 unfoldable pub floatText : (l : ℕ) → List ℕ → Answer (List ℕ × List ℕ)
 floatText l s = do
   s₁ ← expect l (bytes ":") s
-  _ ← require (isFloat (untilSemicolon s₁)) 2 l
-  s₂ ← expect l (bytes ";") (drop (length (untilSemicolon s₁)) s₁)
-  ok (untilSemicolon s₁, s₂)
+  _ ← require (isFloat (until (byte ";") s₁)) 2 l
+  s₂ ← expect l (bytes ";") (drop (length (until (byte ";") s₁)) s₁)
+  ok (until (byte ";") s₁, s₂)
 
 -- 6 comes "after the closing `;`"
 unfoldable pub referenceText : RefKind → (l : ℕ) → Seen → List ℕ → Answer (Reference × List ℕ)

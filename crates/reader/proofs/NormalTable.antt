@@ -10,7 +10,7 @@ use Rattle.reader.specs.Keys.{Integer}
 use Rattle.reader.specs.Table.{Node, word, single, keyNode, scalarNode, branchNode, table, tableIn, indices, indicesIn, targetOf, tableOf, withoutOffset}
 use Rattle.reader.specs.Canonical.{shortestQuoted, canonicalKey, canonicalScalar, canonicalHead, canonicalReference, canonical}
 use Rattle.reader.proofs.Maps.{nodesIn-map}
-use Rattle.reader.proofs.Canonicals.{int-same, canonicalPairs, count-canonical, ordinals-canonical, nodes-canonical}
+use Rattle.reader.proofs.NormalForm.{int-same, canonicalPairs, count-canonical, ordinals-canonical, nodes-canonical}
 
 int-node : (n i : ℕ) (a b : Integer) → a ≡ b → withoutOffset (single Kind.int n (word a) 0 i) ≡ withoutOffset (single Kind.int n (word b) 0 i)
 int-node n i a b e = ap (λ (x : Integer). withoutOffset (single Kind.int n (word x) 0 i)) e
@@ -68,7 +68,7 @@ mutual
   indicesIn-canonical (pair k v ps) i =
       ap₂ _++_ (indices-canonical v (suc i)) (ap (λ (m : ℕ). indicesIn (suc (i + m)) (canonicalPairs ps)) (nodes-canonical v) ∙ indicesIn-canonical ps (suc (i + nodes v)))
 
--- "reading that gives the same table but for text offsets"
+-- Demand 2: "reading that gives the same table but for text offsets"
 pub canonical-table : (v : Value) → map withoutOffset (tableOf (canonical v)) ≡ map withoutOffset (tableOf v)
 unfolding tableOf
 canonical-table v =

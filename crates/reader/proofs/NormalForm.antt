@@ -9,6 +9,7 @@ use Rattle.reader.specs.Bytes.{byte}
 use Rattle.reader.specs.Tree.{leaf, ref, branch, none, pair, TreePath, count, nodes, ordinals, paths, mapTree, mapPairs}
 use Rattle.reader.specs.Syntax.{intKey, stringKey, null, bool, int, float, string, array, object, mapContainer, Spelling, Sign, unsigned, plus, minus, Literal, Quoted, Key, Scalar, Container, Value, Values, own, writeNumber, writeSign, writeInt, writeString, writeKey, writeScalar, writeContainer, write, writePairs, print}
 use Rattle.reader.specs.Keys.{integer, keyMeaning, hasKey}
+use Rattle.reader.specs.Limits.{depthLimit, unseen}
 use Rattle.reader.specs.Fits.{IntFits, KeyFits, ScalarFits, ContainerFits, allowed, Sound, SoundIn, Limited, LimitedIn, Backward, BackwardIn, Shallow, ShallowIn, Valid, Fits}
 use Rattle.reader.specs.Answer.{ok}
 use Rattle.reader.specs.Read.{read}
@@ -109,7 +110,7 @@ mutual
   pairs-shorter (pair k v ps) r t h =
       key-shorter k (write (canonical v) (writePairs (canonicalPairs ps) r)) (write v (writePairs ps t)) (write-shorter v (writePairs (canonicalPairs ps) r) (writePairs ps t) (pairs-shorter ps r t h))
 
--- "canonical text is never longer than its plan" (paper 02, L8)
+-- paper 02, L8: "canonical text is never longer than its plan"
 pub canonical-shorter : (v : Value) → length (print (canonical v)) ≤ length (print v)
 canonical-shorter v = write-shorter v [] [] (omega arith)
 
@@ -210,8 +211,8 @@ canonical-valid v f =
     let shorter = canonical-shorter v in
     record {
       short = omega (arith, f .short);
-      shallow = shallow-canonical v 64 (f .shallow);
-      backward = backward-canonical v 0 (f .backward);
+      shallow = shallow-canonical v depthLimit (f .shallow);
+      backward = backward-canonical v unseen (f .backward);
       sound = sound-canonical v (f .sound);
       limited = limited-canonical v (f .limited);
     }

@@ -1,4 +1,4 @@
--- The worked cases of paper 01 hold of the definitions, by computation. Assumes nothing.
+-- The worked cases of paper 01 hold of the definitions: computed by the checker. Assumes nothing.
 use mathlib.Core.Bool.{_&&_}
 use lib.Dec.{T}
 use Rattle.decimal.specs.Digits.{decimal, decimalIn}

@@ -1,0 +1,208 @@
+-- What a refusal of reading may be: a number of paper 01's table, and a position in the plan or at its end. Assumes nothing.
+use mathlib.Core.Path.{_≡_, subst}
+use mathlib.Core.List.{List, [], _∷_}
+use mathlib.Core.Bool.{Bool, true, false, _&&_, _||_, not}
+use Prim.Native.Nat.{ℕ, zero, suc, _+_, _-_, _≤_}
+use native.Mathlib.Omega.{arith}
+use lib.Dec.{ltb, leb, eqb}
+use lib.ListN.{length, take, drop}
+use Rattle.decimal.specs.Digits.{digitsOf, value}
+use Rattle.decimal.proofs.Decide.{Test, passed, failed, test}
+use Rattle.reader.specs.Bytes.{byte, bytes, isEmpty, sameBytes}
+use Rattle.reader.specs.Kind.{Kind, kinds, tag, keyKinds}
+use Rattle.reader.specs.Tree.{nodes}
+use Rattle.reader.specs.Syntax.{array, object, Key, Container, RefKind, objectRef, variableRef}
+use Rattle.reader.specs.Keys.{hasKey}
+use Rattle.reader.specs.Limits.{numberLimit, sourceLimit, depthLimit, integerLimit, signOf, isFloat, Seen, unseen, seeBranch, see}
+use Rattle.reader.specs.Answer.{Answer, ok, refused, _>>=_, require}
+use Rattle.reader.specs.Read.{kindOf, tagOf, expect, until, digits, number, quoted, intText, stringText, boolText, floatText, referenceText, objectText, Setting, setting, position, isArray, keyText, Inner, readKey, readPairs, readBranch, readBody, readValue, read}
+
+module _ (size : ℕ) where
+  -- a refusal of these
+  pub record InTable (code at : ℕ) : Type 0 where
+    pub least : 1 ≤ code
+    pub most : code ≤ 10
+    pub inside : at ≤ size
+
+  abbrev pub Proper : {A : Type 0} → Answer A → Type 0
+  Proper (ok a) = Unit {0}
+  Proper (refused n p) = InTable n p
+
+  bind : {A B : Type 0} (a : Answer A) (f : A → Answer B) → Proper a → ((x : A) → Proper (f x)) → Proper (a >>= f)
+  bind (ok x) f h g = g x
+  bind (refused n p) f h g = h
+
+  ask : {B : Type 0} (t : Bool) (n p : ℕ) (f : Unit {0} → Answer B) → 1 ≤ n → n ≤ 10 → p ≤ size → ((x : Unit {0}) → Proper (f x)) → Proper (require t n p >>= f)
+  ask true n p f a b c g = g tt
+  ask false n p f a b c g = record { least = a; most = b; inside = c }
+
+  module _ (l : ℕ) (h : l ≤ size) where
+    two : InTable 2 l
+    two = record { least = omega arith; most = omega arith; inside = h }
+
+    expected : (ws s : List ℕ) → Proper (expect l ws s)
+    expected [] s = tt
+    expected (w ∷ ws) [] = two
+    expected (w ∷ ws) (b ∷ s) = go (test (eqb w b)) (expected ws s)
+      where
+        go : Test (eqb w b) → Proper (expect l ws s) → Proper (expect l (w ∷ ws) (b ∷ s))
+        go (passed t) r = rw (t, expect) r
+        go (failed t) r = rw (t, expect) two
+
+    next : {B : Type 0} (ws s : List ℕ) (f : List ℕ → Answer B) → ((x : List ℕ) → Proper (f x)) → Proper (expect l ws s >>= f)
+    next ws s f g = bind (expect l ws s) f (expected ws s) g
+
+    tagged : (ks : List Kind) (n : ℕ) (s : List ℕ) → 1 ≤ n → n ≤ 10 → Proper (tagOf ks n l s)
+    tagged ks n [] a b = two
+    tagged ks n (x ∷ s) a b = bind (kindOf ks n l x) _ (among ks) (λ k. tt)
+      where
+        among : (js : List Kind) → Proper (kindOf js n l x)
+        among [] = record { least = a; most = b; inside = h }
+        among (j ∷ js) = go (test (eqb (tag j) x)) (among js)
+          where
+            go : Test (eqb (tag j) x) → Proper (kindOf js n l x) → Proper (kindOf (j ∷ js) n l x)
+            go (passed t) r = rw (t, kindOf) tt
+            go (failed t) r = rw (t, kindOf) r
+
+    digits-proper : (top : ℕ) (s : List ℕ) → Proper (digits l top s)
+    unfolding digits
+    digits-proper top s =
+        ask (ltb 0 (length (digitsOf s))) 2 l _ (omega arith) (omega arith) h (λ a.
+        ask (leb (value (digitsOf s)) top) 5 l _ (omega arith) (omega arith) h (λ b. tt))
+
+    number-proper : (s : List ℕ) → Proper (number l s)
+    unfolding number
+    number-proper s = bind (digits l numberLimit s) _ (digits-proper numberLimit s) (λ a. tt)
+
+    quoted-proper : (s : List ℕ) → Proper (quoted l s)
+    unfolding quoted
+    quoted-proper s =
+        bind (number l s) _ (number-proper s) (λ a.
+        next (bytes ":\"") (a .1) _ (λ b.
+        ask (leb (a .0 .1) (length b)) 2 l _ (omega arith) (omega arith) h (λ c.
+        next (bytes "\"") (drop (a .0 .1) b) _ (λ d. tt))))
+
+    int-proper : (s : List ℕ) → Proper (intText l s)
+    unfolding intText
+    int-proper s =
+        next (bytes ":") s _ (λ a.
+        bind (digits l (integerLimit (signOf a .0)) (signOf a .1)) _ (digits-proper (integerLimit (signOf a .0)) (signOf a .1)) (λ b.
+        next (bytes ";") (b .1) _ (λ c. tt)))
+
+    string-proper : (s : List ℕ) → Proper (stringText l s)
+    unfolding stringText
+    string-proper s =
+        next (bytes ":") s _ (λ a.
+        bind (quoted l a) _ (quoted-proper a) (λ b.
+        next (bytes ";") (b .1) _ (λ c. tt)))
+
+    object-proper : (s : List ℕ) → Proper (objectText l s)
+    unfolding objectText
+    object-proper s =
+        next (bytes ":") s _ (λ a.
+        bind (quoted l a) _ (quoted-proper a) (λ b.
+        next (bytes ":") (b .1) _ (λ c. tt)))
+
+    bool-proper : (s : List ℕ) → Proper (boolText l s)
+    unfolding boolText
+    bool-proper s =
+        next (bytes ":") s _ (λ a.
+        ask (sameBytes (take 1 a) (bytes "0") || sameBytes (take 1 a) (bytes "1")) 2 l _ (omega arith) (omega arith) h (λ b.
+        next (bytes ";") (drop 1 a) _ (λ c. tt)))
+
+    float-proper : (s : List ℕ) → Proper (floatText l s)
+    unfolding floatText
+    float-proper s =
+        next (bytes ":") s _ (λ a.
+        ask (isFloat (until (byte ";") a)) 2 l _ (omega arith) (omega arith) h (λ b.
+        bind (expect l (bytes ";") (drop (length (until (byte ";") a)) a)) _ (expected (bytes ";") (drop (length (until (byte ";") a)) a)) (λ c. tt)))
+
+    reference-proper : (k : RefKind) (seen : Seen) (s : List ℕ) → Proper (referenceText k l seen s)
+    unfolding referenceText
+    reference-proper k seen s =
+        next (bytes ":") s _ (λ a.
+        bind (number l a) _ (number-proper a) (λ b.
+        next (bytes ";") (b .1) _ (λ c.
+        ask (ltb 0 (b .0 .1) && leb (b .0 .1) seen) 6 l _ (omega arith) (omega arith) h (λ d. tt))))
+
+    four : InTable 4 l
+    four = record { least = omega arith; most = omega arith; inside = h }
+
+    key-proper : (k : Kind) (s : List ℕ) → Proper (keyText k l s)
+    unfolding keyText
+    key-proper Kind.int s = bind (intText l s) _ (int-proper s) (λ a. tt)
+    key-proper Kind.string s = bind (stringText l s) _ (string-proper s) (λ a. tt)
+    key-proper Kind.null s = four
+    key-proper Kind.bool s = four
+    key-proper Kind.float s = four
+    key-proper Kind.array s = four
+    key-proper Kind.object s = four
+    key-proper Kind.objectReference s = four
+    key-proper Kind.variableReference s = four
+
+-- ---- values and pairs
+module _ (set : Setting) where
+  abbrev Ok : {A : Type 0} → Answer A → Type 0
+  Ok a = Proper (set .size) a
+
+  inside : (s : List ℕ) → position set s ≤ set .size
+  inside s = omega arith
+
+  readKey-proper : (c : Container) (earlier : List Key) (before : ℕ) (s : List ℕ) → Ok (readKey set c earlier before s)
+  unfolding readKey
+  readKey-proper c earlier before s =
+      let l : ℕ = position set s in
+      bind (set .size) (tagOf (keyKinds (isArray c)) 4 l s) _ (tagged (set .size) l (inside s) (keyKinds (isArray c)) 4 s (omega arith) (omega arith)) (λ k.
+      ask (set .size) (ltb before (set .capacity)) 7 l _ (omega arith) (omega arith) (inside s) (λ u.
+      bind (set .size) (keyText (k .0) l (k .1)) _ (key-proper (set .size) l (inside s) (k .0) (k .1)) (λ x.
+      ask (set .size) (not (hasKey (x .0) earlier)) 9 l _ (omega arith) (omega arith) (inside s) (λ w. tt))))
+
+  module _ (inner : Inner) (deeper : (seen : Seen) (before : ℕ) (s : List ℕ) → Ok (inner seen before s)) where
+    pairs-proper : (c : Container) (n : ℕ) (earlier : List Key) (seen : Seen) (before : ℕ) (s : List ℕ) → Ok (readPairs set inner c n earlier seen before s)
+    pairs-proper c zero earlier seen before s = tt
+    pairs-proper c (suc n) earlier seen before s =
+        bind (set .size) (readKey set c earlier before s) _ (readKey-proper c earlier before s) (λ k.
+        bind (set .size) (inner seen (suc before) (k .1)) _ (deeper seen (suc before) (k .1)) (λ v.
+        bind (set .size) (readPairs set inner c n (k .0 ∷ earlier) (see seen (v .0)) (suc (before + nodes (v .0))) (v .1)) _
+        (pairs-proper c n (k .0 ∷ earlier) (see seen (v .0)) (suc (before + nodes (v .0))) (v .1)) (λ ps. tt)))
+
+    branch-proper : (c : Container) (l : ℕ) (h : l ≤ set .size) (seen : Seen) (before : ℕ) (s : List ℕ) → Ok (readBranch set inner c l seen before s)
+    unfolding readBranch
+    branch-proper c l h seen before s =
+        bind (set .size) (number l s) _ (number-proper (set .size) l h s) (λ n.
+        next (set .size) l h (bytes ":{") (n .1) _ (λ s₂.
+        bind (set .size) (readPairs set inner c (n .0 .1) [] (seeBranch seen) (suc before) s₂) _ (pairs-proper c (n .0 .1) [] (seeBranch seen) (suc before) s₂) (λ ps.
+        next (set .size) l h (bytes "}") (ps .1) _ (λ s₄. tt))))
+
+    body-proper : (k : Kind) (l : ℕ) (h : l ≤ set .size) (seen : Seen) (before : ℕ) (s : List ℕ) → Ok (readBody set inner k l seen before s)
+    unfolding readBody
+    body-proper Kind.null l h seen before s = next (set .size) l h (bytes ";") s _ (λ a. tt)
+    body-proper Kind.bool l h seen before s = bind (set .size) (boolText l s) _ (bool-proper (set .size) l h s) (λ a. tt)
+    body-proper Kind.int l h seen before s = bind (set .size) (intText l s) _ (int-proper (set .size) l h s) (λ a. tt)
+    body-proper Kind.float l h seen before s = bind (set .size) (floatText l s) _ (float-proper (set .size) l h s) (λ a. tt)
+    body-proper Kind.string l h seen before s = bind (set .size) (stringText l s) _ (string-proper (set .size) l h s) (λ a. tt)
+    body-proper Kind.array l h seen before s = next (set .size) l h (bytes ":") s _ (λ a. branch-proper array l h seen before a)
+    body-proper Kind.object l h seen before s = bind (set .size) (objectText l s) _ (object-proper (set .size) l h s) (λ a. branch-proper (object (a .0)) l h seen before (a .1))
+    body-proper Kind.objectReference l h seen before s = bind (set .size) (referenceText objectRef l seen s) _ (reference-proper (set .size) l h objectRef seen s) (λ a. tt)
+    body-proper Kind.variableReference l h seen before s = bind (set .size) (referenceText variableRef l seen s) _ (reference-proper (set .size) l h variableRef seen s) (λ a. tt)
+
+  value-proper : (d : ℕ) (seen : Seen) (before : ℕ) (s : List ℕ) → Ok (readValue set d seen before s)
+  value-proper zero seen before s =
+      bind (set .size) (tagOf kinds 3 (position set s) s) _ (tagged (set .size) (position set s) (inside s) kinds 3 s (omega arith) (omega arith))
+      (λ k. record { least = omega arith; most = omega arith; inside = inside s })
+  value-proper (suc d) seen before s =
+      bind (set .size) (tagOf kinds 3 (position set s) s) _ (tagged (set .size) (position set s) (inside s) kinds 3 s (omega arith) (omega arith)) (λ k.
+      ask (set .size) (ltb before (set .capacity)) 7 (position set s) _ (omega arith) (omega arith) (inside s) (λ u.
+      body-proper (readValue set d) (λ a b c. value-proper d a b c) (k .0) (position set s) (inside s) seen before (k .1)))
+
+read-proper : (capacity : ℕ) (source : List ℕ) → Proper (length source) (read capacity source)
+unfolding read
+read-proper capacity source =
+    let size : ℕ = length source in
+    ask size (leb size sourceLimit) 1 0 _ (omega arith) (omega arith) (omega arith) (λ u.
+    bind size (readValue (setting capacity source) depthLimit unseen 0 source) _ (value-proper (setting capacity source) depthLimit unseen 0 source) (λ v.
+    ask size (isEmpty (v .1)) 10 (size - length (v .1)) _ (omega arith) (omega arith) (omega arith) (λ w. tt)))
+
+-- "A refusal returns its number and a position": of reading, 1 to 10, in the plan or at its end
+pub refusal-proper : (capacity : ℕ) (source : List ℕ) (n p : ℕ) → read capacity source ≡ refused n p → InTable (length source) n p
+refusal-proper capacity source n p e = subst (Proper (length source)) e (read-proper capacity source)
