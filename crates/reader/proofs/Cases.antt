@@ -4,12 +4,12 @@ use lib.Dec.{T}
 use Rattle.decimal.specs.Digits.{decimal, decimalIn}
 use Rattle.reader.specs.Syntax.{write}
 use Rattle.reader.specs.Limits.{isFloat}
-use Rattle.reader.specs.Read.{digits, number, quoted, intText, stringText, boolText, floatText, referenceText, objectText, keyText, readKey, readBranch, readBody, read}
+use Rattle.reader.specs.Read.{digits, number, intText, quotedText, boolText, floatText, referenceText, keyText, readKey, readBranch, readBody, read}
 use Rattle.reader.specs.Table.{tableOf}
 use Rattle.reader.specs.Canonical.{canonical}
 use Rattle.reader.specs.Cases.{shown, hold, starred, limits}
 
 -- THE STARRED CASES, and what stands on either side of a limit
 pub worked : T (hold starred && hold limits)
-unfolding hold shown tableOf canonical read readBody readBranch readKey keyText digits number quoted intText stringText boolText floatText referenceText objectText isFloat decimal decimalIn write
+unfolding hold shown tableOf canonical read readBody readBranch readKey keyText digits number intText quotedText boolText floatText referenceText isFloat decimal decimalIn write
 worked = tt

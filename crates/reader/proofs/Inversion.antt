@@ -6,7 +6,7 @@ use Prim.Native.Nat.{ℕ, zero, suc, _+_, _-_, _≤_, _<_}
 use native.Mathlib.Omega.{arith}
 use lib.Dec.{T, ltb, leb, ltb→lt, leb→le}
 use lib.ListN.{length}
-use Rattle.reader.specs.Bytes.{bytes, isEmpty}
+use Rattle.reader.specs.Bytes.{byte, bytes, isEmpty}
 use Rattle.reader.specs.Kind.{Kind, kinds, tag, keyKinds}
 use Rattle.reader.specs.Tree.{leaf, ref, count, nodes, nodesIn}
 use Rattle.reader.specs.Syntax.{null, bool, int, float, string, array, object, Spelling, Key, Scalar, Container, RefKind, objectRef, variableRef, refKind, Value, Values, writeNumber, writeKey, writeScalar, writeContainer, write, writePairs, print}
@@ -14,10 +14,10 @@ use Rattle.reader.specs.Keys.{hasKey}
 use Rattle.reader.specs.Limits.{sourceLimit, depthLimit, Seen, unseen, seeBranch, see}
 use Rattle.reader.specs.Fits.{KeyFits, ScalarFits, ContainerFits, allowed, Sound, SoundIn, Limited, LimitedIn, Backward, BackwardIn, Shallow, ShallowIn, Fits}
 use Rattle.reader.specs.Answer.{ok, _>>=_, require}
-use Rattle.reader.specs.Read.{tagOf, expect, number, intText, stringText, boolText, floatText, referenceText, objectText, Setting, setting, position, isArray, keyText, Inner, readKey, readPairs, readBranch, readBody, readValue, read}
+use Rattle.reader.specs.Read.{tagOf, expect, number, intText, quotedText, boolText, floatText, referenceText, Setting, setting, position, isArray, keyText, Inner, readKey, readPairs, readBranch, readBody, readValue, read}
 use Rattle.reader.proofs.Answers.{ok-same, not-both, bind-ok, require-ok}
 use Rattle.reader.proofs.Floats.{empty-ok}
-use Rattle.reader.proofs.Texts.{tag-ok, expect-ok, number-ok, int-ok, string-ok, object-ok, bool-ok, float-ok, reference-ok, keyText-ok, key-allowed}
+use Rattle.reader.proofs.Texts.{tag-ok, expect-ok, number-ok, int-ok, quoted-ok, bool-ok, float-ok, reference-ok, keyText-ok, key-allowed}
 
 -- ---- values and pairs
 
@@ -155,15 +155,15 @@ module _ (set : Setting) where
         let g = float-ok l s (a .0) (a .1) in
         scalar-ok seen before (float (a .0 .0)) (100 ∷ s) (a .0 .1) q m (g .fits) (ap {B = List ℕ} (λ x. 100 ∷ x) (g .text)) (a .2)
     body-ok Kind.string l seen before s q m e =
-        let a = bind-ok (stringText l s) _ q e in
-        let g = string-ok l s (a .0) (a .1) in
-        scalar-ok seen before (string (a .0 .0)) (115 ∷ s) (a .0 .1) q m (g .fits) (g .text) (a .2)
+        let a = bind-ok (quotedText l (bytes "\";") s) _ q e in
+        let g = quoted-ok l (byte ";") s (a .0) (a .1) in
+        scalar-ok seen before (string (a .0 .0)) (115 ∷ s) (a .0 .1) q m (g .fits) (ap {B = List ℕ} (λ x. 115 ∷ x) (g .text)) (a .2)
     body-ok Kind.array l seen before s q m e =
         let a = bind-ok (expect l (bytes ":") s) _ q e in
         rw (expect-ok l (bytes ":") s (a .0) (a .1)) (branch-ok array l seen before (a .0) q m tt (a .2))
     body-ok Kind.object l seen before s q m e =
-        let a = bind-ok (objectText l s) _ q e in
-        let g = object-ok l s (a .0) (a .1) in
+        let a = bind-ok (quotedText l (bytes "\":") s) _ q e in
+        let g = quoted-ok l (byte ":") s (a .0) (a .1) in
         rw (g .text) (branch-ok (object (a .0 .0)) l seen before (a .0 .1) q m (g .fits) (a .2))
     body-ok Kind.objectReference l seen before s q m e = ref-ok objectRef l seen before s q m e
     body-ok Kind.variableReference l seen before s q m e = ref-ok variableRef l seen before s q m e
@@ -192,9 +192,9 @@ read-ok capacity source v e =
     let n : ℕ = length source in
     let a = bind-ok (require (leb n sourceLimit) 1 0) _ v e in
     let b = bind-ok (readValue (setting capacity source) depthLimit unseen 0 source) _ v (a .2) in
-    let c = bind-ok (require (isEmpty (b .0 .1)) 10 (n - length (b .0 .1))) _ v (b .2) in
+    let c = bind-ok (require (isEmpty (b .0 .1)) 10 (position (setting capacity source) (b .0 .1))) _ v (b .2) in
     let g = value-ok (setting capacity source) depthLimit unseen 0 source (b .0) (b .1) in
-    let t : source ≡ print (b .0 .0) = g .text ∙ ap (write (b .0 .0)) (empty-ok (b .0 .1) (require-ok (isEmpty (b .0 .1)) 10 (n - length (b .0 .1)) (c .0) (c .1))) in
+    let t : source ≡ print (b .0 .0) = g .text ∙ ap (write (b .0 .0)) (empty-ok (b .0 .1) (require-ok (isEmpty (b .0 .1)) 10 (position (setting capacity source) (b .0 .1)) (c .0) (c .1))) in
     subst (Printed capacity source) (ok-same (c .2)) (record {
       text = t;
       fits = record {

@@ -3,6 +3,7 @@ use mathlib.Core.Path.{_≡_, refl, ap, ap₂}
 use mathlib.Core.List.{List, [], _∷_, _++_, map}
 use mathlib.Core.Bool.{Bool}
 use Prim.Native.Nat.{ℕ, suc, _+_}
+use Rattle.reader.specs.Syntax.{KeyOf, intKey, stringKey, ScalarOf, null, bool, int, float, string, ContainerOf, array, object, mapKey, mapScalar, mapContainer}
 use Rattle.reader.specs.Tree.{Tree, leaf, ref, branch, Pairs, none, pair, TreePath, count, nodes, nodesIn, one, only, ordinals, ordinalsIn, paths, pathsIn, mapTree, mapPairs}
 
 -- a statement of every reference
@@ -93,3 +94,21 @@ module _ {K L H R K₁ L₁ H₁ R₁ K₂ L₂ H₂ R₂ : Type 0}
     map-map-in : (ps : Pairs K L H R) → RefsIn P ps → mapPairs gk gl gh gr (mapPairs fk fl fh fr ps) ≡ mapPairs jk jl jh jr ps
     map-map-in none a = refl
     map-map-in (pair k v ps) a = rw (ek k, map-map v (a .0), map-map-in ps (a .1))
+
+-- the same for keys, scalars and containers
+module _ {I S I₁ S₁ I₂ S₂ : Type 0} (f : I → I₁) (g : S → S₁) (f′ : I₁ → I₂) (g′ : S₁ → S₂) (h : I → I₂) (j : S → S₂)
+    (ei : (x : I) → f′ (f x) ≡ h x) (es : (t : S) → g′ (g t) ≡ j t) where
+  pub key-map : (k : KeyOf I S) → mapKey f′ g′ (mapKey f g k) ≡ mapKey h j k
+  key-map (intKey x) = ap intKey (ei x)
+  key-map (stringKey t) = ap stringKey (es t)
+
+  pub scalar-map : (x : ScalarOf I S) → mapScalar f′ g′ (mapScalar f g x) ≡ mapScalar h j x
+  scalar-map null = refl
+  scalar-map (bool b) = refl
+  scalar-map (int x) = ap int (ei x)
+  scalar-map (float t) = refl
+  scalar-map (string t) = ap string (es t)
+
+pub container-map : {S S₁ S₂ : Type 0} (g : S → S₁) (g′ : S₁ → S₂) (j : S → S₂) → ((t : S) → g′ (g t) ≡ j t) → (c : ContainerOf S) → mapContainer g′ (mapContainer g c) ≡ mapContainer j c
+container-map g g′ j e array = refl
+container-map g g′ j e (object t) = ap object (e t)

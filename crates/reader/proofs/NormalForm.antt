@@ -1,5 +1,5 @@
 -- Canonical text: it fits where its plan does, means the same, and is no longer. Assumes nothing.
-use mathlib.Core.Path.{_≡_, refl, ap, _∙_}
+use mathlib.Core.Path.{_≡_, refl, sym, ap, _∙_}
 use mathlib.Core.List.{List, [], _∷_, _++_, map}
 use Prim.Native.Nat.{ℕ, zero, suc, _+_, _-_, _≤_}
 use native.Mathlib.Omega.{arith}
@@ -8,41 +8,53 @@ use Rattle.decimal.specs.Digits.{spelled}
 use Rattle.reader.specs.Bytes.{byte}
 use Rattle.reader.specs.Tree.{leaf, ref, branch, none, pair, TreePath, count, nodes, ordinals, paths, mapTree, mapPairs}
 use Rattle.reader.specs.Syntax.{intKey, stringKey, null, bool, int, float, string, array, object, mapContainer, Spelling, Sign, unsigned, plus, minus, Literal, Quoted, Key, Scalar, Container, Value, Values, own, writeNumber, writeSign, writeInt, writeString, writeKey, writeScalar, writeContainer, write, writePairs, print}
-use Rattle.reader.specs.Keys.{integer, keyMeaning, hasKey}
-use Rattle.reader.specs.Limits.{depthLimit, unseen}
+use Rattle.reader.specs.Keys.{Integer, nonneg, negsuc, signed, integer, keyMeaning, hasKey}
+use Rattle.reader.specs.Limits.{depthLimit, integerLimit, unseen}
 use Rattle.reader.specs.Fits.{IntFits, KeyFits, ScalarFits, ContainerFits, allowed, Sound, SoundIn, Limited, LimitedIn, Backward, BackwardIn, Shallow, ShallowIn, Valid, Fits}
 use Rattle.reader.specs.Answer.{ok}
 use Rattle.reader.specs.Read.{read}
 use Rattle.reader.specs.Meaning.{meaning, scalarMeaning, headMeaning, referenceMeaning}
 use Rattle.reader.specs.Canonical.{shortest, shortestSign, shortestInt, shortestQuoted, canonicalKey, canonicalScalar, canonicalHead, canonicalReference, canonical}
-use Rattle.reader.proofs.Maps.{refs-all, count-map, nodes-map, ordinals-map, paths-map, map-map}
+use Rattle.reader.proofs.Maps.{refs-all, count-map, nodes-map, ordinals-map, paths-map, map-map, key-map, scalar-map, container-map}
 use Rattle.reader.proofs.Fronts.{number-length, quoted-length}
 use Rattle.reader.proofs.Printed.{read-print}
 
--- ---- the parts mean the same
-pub int-same : (x : Literal) → integer (shortestInt x) ≡ integer x
-int-same x = go (x .sign) (x .magnitude)
+-- ---- integers and texts: what they mean, and the shortest way to write that
+abbrev pub literalOf : Integer → Literal
+literalOf (nonneg n) = record { sign = unsigned; zeros = 0; magnitude = n }
+literalOf (negsuc n) = record { sign = minus; zeros = 0; magnitude = suc n }
+
+abbrev pub quotedOf : List ℕ → Quoted
+quotedOf t = record { spelling = shortest; text = t }
+
+pub literal-shortest : (x : Literal) → literalOf (integer x) ≡ shortestInt x
+literal-shortest x = go (x .sign) (x .magnitude)
   where
-    go : (s : Sign) (n : ℕ) → integer (shortestInt (record { sign = s; zeros = x .zeros; magnitude = n })) ≡ integer (record { sign = s; zeros = x .zeros; magnitude = n })
+    go : (s : Sign) (n : ℕ) → literalOf (signed s n) ≡ record { sign = shortestSign s n; zeros = 0; magnitude = n }
     go unsigned n = refl
     go plus n = refl
     go minus zero = refl
     go minus (suc n) = refl
 
+literal-means : (z : Integer) → integer (literalOf z) ≡ z
+literal-means (nonneg n) = refl
+literal-means (negsuc n) = refl
+
+pub int-same : (x : Literal) → integer (shortestInt x) ≡ integer x
+int-same x = ap integer (sym (literal-shortest x)) ∙ literal-means (integer x)
+
+-- keys, scalars and containers mean the same
+abbrev pub textOf : Quoted → List ℕ
+textOf q = q .text
+
 key-same : (k : Key) → keyMeaning (canonicalKey k) ≡ keyMeaning k
-key-same (intKey x) = ap intKey (int-same x)
-key-same (stringKey q) = refl
+key-same k = key-map shortestInt shortestQuoted integer textOf integer textOf int-same (λ q. refl) k
 
 scalar-same : (x : Scalar) → scalarMeaning (canonicalScalar x) ≡ scalarMeaning x
-scalar-same null = refl
-scalar-same (bool b) = refl
-scalar-same (int x) = ap int (int-same x)
-scalar-same (float t) = refl
-scalar-same (string q) = refl
+scalar-same x = scalar-map shortestInt shortestQuoted integer textOf integer textOf int-same (λ q. refl) x
 
-container-same : (c : Container) → mapContainer (λ (q : Quoted). q .text) (mapContainer shortestQuoted c) ≡ mapContainer (λ (q : Quoted). q .text) c
-container-same array = refl
-container-same (object q) = refl
+container-same : (c : Container) → mapContainer textOf (mapContainer shortestQuoted c) ≡ mapContainer textOf c
+container-same c = container-map shortestQuoted textOf textOf (λ q. refl) c
 
 -- CANONICAL TEXT MEANS THE SAME
 pub canonical-meaning : (v : Value) → meaning (canonical v) ≡ meaning v
@@ -118,7 +130,7 @@ canonical-shorter v = write-shorter v [] [] (omega arith)
 int-fits : (x : Literal) → IntFits x → IntFits (shortestInt x)
 int-fits x h = go (x .sign) (x .magnitude) h
   where
-    go : (s : Sign) (n : ℕ) → IntFits (record { sign = s; zeros = x .zeros; magnitude = n }) → IntFits (shortestInt (record { sign = s; zeros = x .zeros; magnitude = n }))
+    go : (s : Sign) (n : ℕ) → n ≤ integerLimit s → n ≤ integerLimit (shortestSign s n)
     go unsigned n f = f
     go plus n f = f
     go minus zero f = omega arith

@@ -11,13 +11,13 @@ use lib.Seq.{getD-append-add}
 use Rattle.decimal.proofs.Decide.{Order, below, above, order}
 use Rattle.reader.specs.Kind.{tag, hasOrdinal}
 use Rattle.reader.specs.Tree.{Tree, leaf, ref, branch, Pairs, none, pair, TreePath, one, only, ordinals, ordinalsIn, paths, pathsIn, mapTree}
-use Rattle.reader.specs.Syntax.{intKey, stringKey, null, bool, int, float, string, array, object, mapKey, mapScalar, mapContainer, Sign, unsigned, plus, minus, Literal, Quoted, Key, Scalar, Container, Head, Reference, refKind, Value, Values, own, print}
-use Rattle.reader.specs.Keys.{Integer, nonneg, negsuc, integer, keyMeaning}
+use Rattle.reader.specs.Syntax.{mapKey, mapScalar, mapContainer, Container, Head, Reference, refKind, Value, Values, own, print}
+use Rattle.reader.specs.Keys.{integer, keyMeaning}
 use Rattle.reader.specs.Fits.{Backward, BackwardIn, Valid}
 use Rattle.reader.specs.Meaning.{Meaning, meaning, scalarMeaning, HeadMeaning, headMeaning, ReferenceMeaning, referenceMeaning}
 use Rattle.reader.specs.Canonical.{shortest, shortestInt, shortestQuoted, canonicalKey, canonicalScalar, canonicalHead, canonicalReference, canonical}
-use Rattle.reader.proofs.Maps.{Refs, RefsIn, paths-map, ordinals-map, map-map}
-use Rattle.reader.proofs.NormalForm.{canonical-valid, canonical-meaning}
+use Rattle.reader.proofs.Maps.{Refs, RefsIn, paths-map, ordinals-map, map-map, key-map, scalar-map, container-map}
+use Rattle.reader.proofs.NormalForm.{literalOf, quotedOf, literal-shortest, textOf, canonical-valid, canonical-meaning}
 use Rattle.reader.proofs.Unique.{unique}
 
 -- ---- lists
@@ -109,13 +109,6 @@ module _ {K L H R : Type 0} (own : R → Bool) where
         which (above l) f g = found-later k v ps b i l (g (omega arith))
 
 -- ---- the canonical syntax of a meaning
-abbrev literalOf : Integer → Literal
-literalOf (nonneg n) = record { sign = unsigned; zeros = 0; magnitude = n }
-literalOf (negsuc n) = record { sign = minus; zeros = 0; magnitude = suc n }
-
-abbrev quotedOf : List ℕ → Quoted
-quotedOf t = record { spelling = shortest; text = t }
-
 abbrev headOf : HeadMeaning → Head
 headOf h = record { container = mapContainer quotedOf h; spelling = shortest }
 
@@ -128,30 +121,6 @@ referenceOf m r = record { kind = r .kind; spelling = shortest; ordinal = suc (r
 
 unfoldable pub canonicalOf : Meaning → Value
 canonicalOf m = mapTree (mapKey literalOf quotedOf) (mapScalar literalOf quotedOf) headOf (referenceOf m) m
-
-int-of : (x : Literal) → literalOf (integer x) ≡ shortestInt x
-int-of x = go (x .sign) (x .magnitude)
-  where
-    go : (s : Sign) (n : ℕ) → literalOf (integer (record { sign = s; zeros = x .zeros; magnitude = n })) ≡ shortestInt (record { sign = s; zeros = x .zeros; magnitude = n })
-    go unsigned n = refl
-    go plus n = refl
-    go minus zero = refl
-    go minus (suc n) = refl
-
-key-of : (k : Key) → mapKey literalOf quotedOf (keyMeaning k) ≡ canonicalKey k
-key-of (intKey x) = ap intKey (int-of x)
-key-of (stringKey q) = refl
-
-scalar-of : (x : Scalar) → mapScalar literalOf quotedOf (scalarMeaning x) ≡ canonicalScalar x
-scalar-of null = refl
-scalar-of (bool b) = refl
-scalar-of (int x) = ap int (int-of x)
-scalar-of (float t) = refl
-scalar-of (string q) = refl
-
-container-of : (c : Container) → mapContainer quotedOf (mapContainer (λ (q : Quoted). q .text) c) ≡ mapContainer shortestQuoted c
-container-of array = refl
-container-of (object q) = refl
 
 -- every reference names an ordinal that is taken
 abbrev pub Taken : (top : ℕ) → Reference → Type 0
@@ -173,7 +142,8 @@ unfolding canonicalOf meaning canonical
 canonical-of-meaning v f =
     map-map keyMeaning scalarMeaning headMeaning (referenceMeaning (paths own v)) (mapKey literalOf quotedOf) (mapScalar literalOf quotedOf) headOf (referenceOf (meaning v))
     canonicalKey canonicalScalar canonicalHead canonicalReference (Taken (ordinals own v))
-    key-of scalar-of (λ h. ap (λ (c : Container). record { container = c; spelling = shortest }) (container-of (h .container))) reference-of v (refs-taken (ordinals own v) v 0 (f .backward) (omega arith))
+    (key-map integer textOf literalOf quotedOf shortestInt shortestQuoted literal-shortest (λ q. refl)) (scalar-map integer textOf literalOf quotedOf shortestInt shortestQuoted literal-shortest (λ q. refl))
+    (λ h. ap (λ (c : Container). record { container = c; spelling = shortest }) (container-map textOf quotedOf shortestQuoted (λ q. refl) (h .container))) reference-of v (refs-taken (ordinals own v) v 0 (f .backward) (omega arith))
   where
     same-paths : paths ownMeaning (meaning v) ≡ paths own v
     same-paths = paths-map keyMeaning scalarMeaning headMeaning (referenceMeaning (paths own v)) own ownMeaning (λ r. refl) v

@@ -4,7 +4,7 @@ use mathlib.Core.List.{List, [], _∷_, _++_}
 use mathlib.Core.Bool.{true, false, not}
 use Prim.Native.Nat.{ℕ, zero, suc, _+_, _-_, _≤_, _<_}
 use native.Mathlib.Omega.{arith}
-use lib.Dec.{T}
+use lib.Dec.{T, eqb, eqb-refl}
 use lib.ListN.{length, length-append}
 use lib.Seq.{take-append-seam, drop-append-seam}
 use borrow.Author.Tests.{lt-ltb, le-leb, ne-eqb}
@@ -19,7 +19,7 @@ use Rattle.reader.specs.Keys.{hasKey}
 use Rattle.reader.specs.Limits.{numberLimit, sourceLimit, depthLimit, integerLimit, signOf, isFloat, Seen, unseen, seeBranch, see}
 use Rattle.reader.specs.Fits.{IntFits, QuotedFits, KeyFits, ScalarFits, ContainerFits, allowed, Sound, SoundIn, Limited, LimitedIn, Backward, BackwardIn, Shallow, ShallowIn, Fits}
 use Rattle.reader.specs.Answer.{ok}
-use Rattle.reader.specs.Read.{digits, number, quoted, intText, stringText, boolText, floatText, referenceText, objectText, Setting, setting, position, keyText, Inner, readKey, readPairs, readBranch, readBody, readValue, read}
+use Rattle.reader.specs.Read.{digits, number, expect, intText, quotedText, boolText, floatText, referenceText, Setting, setting, position, keyText, Inner, readKey, readPairs, readBranch, readBody, readValue, read}
 use Rattle.reader.proofs.Floats.{float-semicolon, until-semicolon}
 
 -- ---- texts
@@ -57,24 +57,19 @@ unfolding intText
 int-printed l x r h =
     rw (sign-printed (x .sign) (x .zeros) (x .magnitude) (byte ";" ∷ r), digits-printed l (integerLimit (x .sign)) (x .zeros) (x .magnitude) (byte ";") r h refl)
 
-quoted-printed : (l : ℕ) (q : Quoted) (r : List ℕ) → QuotedFits q → quoted l (writeQuoted q r) ≡ ok (q, r)
-unfolding quoted
-quoted-printed l q r h =
+-- closed by `"` and one byte more
+quoted-printed : (l c : ℕ) (q : Quoted) (r : List ℕ) → QuotedFits q → quotedText l (byte "\"" ∷ c ∷ []) (byte ":" ∷ writeQuoted q (c ∷ r)) ≡ ok (q, r)
+unfolding quotedText
+quoted-printed l c q r h =
     let t : List ℕ = q .text in
     rw (
-      number-printed l (q .spelling) (length t) (byte ":") (byte "\"" ∷ t ++ (byte "\"" ∷ r)) h refl,
-      le-leb (length t) (length (t ++ (34 ∷ r))) (simp length-append (omega arith)),
-      drop-append-seam t (34 ∷ r),
-      take-append-seam t (34 ∷ r),
+      number-printed l (q .spelling) (length t) (byte ":") (byte "\"" ∷ t ++ (byte "\"" ∷ c ∷ r)) h refl,
+      le-leb (length t) (length (t ++ (34 ∷ c ∷ r))) (simp length-append (omega arith)),
+      drop-append-seam t (34 ∷ c ∷ r),
+      take-append-seam t (34 ∷ c ∷ r),
+      T-true (eqb c c) (eqb-refl c),
+      expect,
     )
-
-string-printed : (l : ℕ) (q : Quoted) (r : List ℕ) → QuotedFits q → stringText l (byte ":" ∷ writeQuoted q (byte ";" ∷ r)) ≡ ok (q, r)
-unfolding stringText
-string-printed l q r h = rw (quoted-printed l q (byte ";" ∷ r) h)
-
-object-printed : (l : ℕ) (q : Quoted) (r : List ℕ) → QuotedFits q → objectText l (byte ":" ∷ writeQuoted q (byte ":" ∷ r)) ≡ ok (q, r)
-unfolding objectText
-object-printed l q r h = rw (quoted-printed l q (byte ":" ∷ r) h)
 
 float-printed : (l : ℕ) (t r : List ℕ) → T (isFloat t) → floatText l (byte ":" ∷ t ++ (byte ";" ∷ r)) ≡ ok (t, r)
 unfolding floatText
@@ -93,10 +88,10 @@ module _ (set : Setting) where
   unfolding readKey keyText
   key-printed array earlier before (intKey x) r b f a d = rw (lt-ltb before (set .capacity) b, int-printed (position set (writeKey (intKey x) r)) x r f, T-true (not (hasKey (intKey x) earlier)) d)
   key-printed array earlier before (stringKey q) r b f a d =
-      rw (lt-ltb before (set .capacity) b, string-printed (position set (writeKey (stringKey q) r)) q r f, T-true (not (hasKey (stringKey q) earlier)) d)
+      rw (lt-ltb before (set .capacity) b, quoted-printed (position set (writeKey (stringKey q) r)) (byte ";") q r f, T-true (not (hasKey (stringKey q) earlier)) d)
   key-printed (object t) earlier before (intKey x) r b f a d = absurd a
   key-printed (object t) earlier before (stringKey q) r b f a d =
-      rw (lt-ltb before (set .capacity) b, string-printed (position set (writeKey (stringKey q) r)) q r f, T-true (not (hasKey (stringKey q) earlier)) d)
+      rw (lt-ltb before (set .capacity) b, quoted-printed (position set (writeKey (stringKey q) r)) (byte ";") q r f, T-true (not (hasKey (stringKey q) earlier)) d)
 
   scalar-printed : (d : ℕ) (seen : Seen) (before : ℕ) (x : Scalar) (r : List ℕ) → before < set .capacity → ScalarFits x → readValue set (suc d) seen before (writeScalar x r) ≡ ok (leaf x, r)
   unfolding readBody boolText
@@ -105,7 +100,7 @@ module _ (set : Setting) where
   scalar-printed d seen before (bool false) r b f = rw (lt-ltb before (set .capacity) b)
   scalar-printed d seen before (int x) r b f = rw (lt-ltb before (set .capacity) b, int-printed (position set (writeScalar (int x) r)) x r f)
   scalar-printed d seen before (float t) r b f = rw (lt-ltb before (set .capacity) b, float-printed (position set (writeScalar (float t) r)) t r f)
-  scalar-printed d seen before (string q) r b f = rw (lt-ltb before (set .capacity) b, string-printed (position set (writeScalar (string q) r)) q r f)
+  scalar-printed d seen before (string q) r b f = rw (lt-ltb before (set .capacity) b, quoted-printed (position set (writeScalar (string q) r)) (byte ";") q r f)
 
   ref-printed : (k : RefKind) (n : Reference) (d : ℕ) (seen : Seen) (before : ℕ) (r : List ℕ) → n .kind ≡ k → before < set .capacity → n .ordinal ≤ numberLimit → 1 ≤ n .ordinal → n .ordinal ≤ seen
       → readValue set (suc d) seen before (tag (refKind k) ∷ byte ":" ∷ writeNumber (n .spelling) (n .ordinal) (byte ";" ∷ r)) ≡ ok (ref n, r)
@@ -125,7 +120,7 @@ module _ (set : Setting) where
   unfolding readBody
   container-printed array w ps d seen before r b f c e = rw (lt-ltb before (set .capacity) b) (branch-printed (readValue set d) (record { container = array; spelling = w }) ps _ seen before r c e)
   container-printed (object q) w ps d seen before r b f c e =
-      rw (lt-ltb before (set .capacity) b, object-printed _ q (writeNumber w (count ps) (byte ":" ∷ byte "{" ∷ writePairs ps (byte "}" ∷ r))) f)
+      rw (lt-ltb before (set .capacity) b, quoted-printed _ (byte ":") q (writeNumber w (count ps) (byte ":" ∷ byte "{" ∷ writePairs ps (byte "}" ∷ r))) f)
       (branch-printed (readValue set d) (record { container = object q; spelling = w }) ps _ seen before r c e)
 
   one-level : (d : ℕ) (ps : Values) → ShallowIn (suc d - 1) ps → ShallowIn d ps

@@ -2,7 +2,7 @@
 use mathlib.Core.Path.{_≡_, subst}
 use mathlib.Core.List.{List, [], _∷_}
 use mathlib.Core.Bool.{Bool, true, false, _&&_, _||_, not}
-use Prim.Native.Nat.{ℕ, zero, suc, _+_, _-_, _≤_}
+use Prim.Native.Nat.{ℕ, zero, suc, _+_, _≤_}
 use native.Mathlib.Omega.{arith}
 use lib.Dec.{ltb, leb, eqb}
 use lib.ListN.{length, take, drop}
@@ -15,7 +15,7 @@ use Rattle.reader.specs.Syntax.{array, object, Key, Container, RefKind, 
 use Rattle.reader.specs.Keys.{hasKey}
 use Rattle.reader.specs.Limits.{numberLimit, sourceLimit, depthLimit, integerLimit, signOf, isFloat, Seen, unseen, seeBranch, see}
 use Rattle.reader.specs.Answer.{Answer, ok, refused, _>>=_, require}
-use Rattle.reader.specs.Read.{kindOf, tagOf, expect, until, digits, number, quoted, intText, stringText, boolText, floatText, referenceText, objectText, Setting, setting, position, isArray, keyText, Inner, readKey, readPairs, readBranch, readBody, readValue, read}
+use Rattle.reader.specs.Read.{kindOf, tagOf, expect, until, digits, number, intText, quotedText, boolText, floatText, referenceText, Setting, setting, position, isArray, keyText, Inner, readKey, readPairs, readBranch, readBody, readValue, read}
 
 module _ (size : ℕ) where
   -- a refusal of these
@@ -74,14 +74,6 @@ module _ (size : ℕ) where
     unfolding number
     number-proper s = bind (digits l numberLimit s) _ (digits-proper numberLimit s) (λ a. tt)
 
-    quoted-proper : (s : List ℕ) → Proper (quoted l s)
-    unfolding quoted
-    quoted-proper s =
-        bind (number l s) _ (number-proper s) (λ a.
-        next (bytes ":\"") (a .1) _ (λ b.
-        ask (leb (a .0 .1) (length b)) 2 l _ (omega arith) (omega arith) h (λ c.
-        next (bytes "\"") (drop (a .0 .1) b) _ (λ d. tt))))
-
     int-proper : (s : List ℕ) → Proper (intText l s)
     unfolding intText
     int-proper s =
@@ -89,19 +81,14 @@ module _ (size : ℕ) where
         bind (digits l (integerLimit (signOf a .0)) (signOf a .1)) _ (digits-proper (integerLimit (signOf a .0)) (signOf a .1)) (λ b.
         next (bytes ";") (b .1) _ (λ c. tt)))
 
-    string-proper : (s : List ℕ) → Proper (stringText l s)
-    unfolding stringText
-    string-proper s =
+    quoted-proper : (close s : List ℕ) → Proper (quotedText l close s)
+    unfolding quotedText
+    quoted-proper close s =
         next (bytes ":") s _ (λ a.
-        bind (quoted l a) _ (quoted-proper a) (λ b.
-        next (bytes ";") (b .1) _ (λ c. tt)))
-
-    object-proper : (s : List ℕ) → Proper (objectText l s)
-    unfolding objectText
-    object-proper s =
-        next (bytes ":") s _ (λ a.
-        bind (quoted l a) _ (quoted-proper a) (λ b.
-        next (bytes ":") (b .1) _ (λ c. tt)))
+        bind (number l a) _ (number-proper a) (λ b.
+        next (bytes ":\"") (b .1) _ (λ c.
+        ask (leb (b .0 .1) (length c)) 2 l _ (omega arith) (omega arith) h (λ d.
+        next close (drop (b .0 .1) c) _ (λ e. tt)))))
 
     bool-proper : (s : List ℕ) → Proper (boolText l s)
     unfolding boolText
@@ -131,7 +118,7 @@ module _ (size : ℕ) where
     key-proper : (k : Kind) (s : List ℕ) → Proper (keyText k l s)
     unfolding keyText
     key-proper Kind.int s = bind (intText l s) _ (int-proper s) (λ a. tt)
-    key-proper Kind.string s = bind (stringText l s) _ (string-proper s) (λ a. tt)
+    key-proper Kind.string s = bind (quotedText l (bytes "\";") s) _ (quoted-proper (bytes "\";") s) (λ a. tt)
     key-proper Kind.null s = four
     key-proper Kind.bool s = four
     key-proper Kind.float s = four
@@ -180,9 +167,9 @@ module _ (set : Setting) where
     body-proper Kind.bool l h seen before s = bind (set .size) (boolText l s) _ (bool-proper (set .size) l h s) (λ a. tt)
     body-proper Kind.int l h seen before s = bind (set .size) (intText l s) _ (int-proper (set .size) l h s) (λ a. tt)
     body-proper Kind.float l h seen before s = bind (set .size) (floatText l s) _ (float-proper (set .size) l h s) (λ a. tt)
-    body-proper Kind.string l h seen before s = bind (set .size) (stringText l s) _ (string-proper (set .size) l h s) (λ a. tt)
+    body-proper Kind.string l h seen before s = bind (set .size) (quotedText l (bytes "\";") s) _ (quoted-proper (set .size) l h (bytes "\";") s) (λ a. tt)
     body-proper Kind.array l h seen before s = next (set .size) l h (bytes ":") s _ (λ a. branch-proper array l h seen before a)
-    body-proper Kind.object l h seen before s = bind (set .size) (objectText l s) _ (object-proper (set .size) l h s) (λ a. branch-proper (object (a .0)) l h seen before (a .1))
+    body-proper Kind.object l h seen before s = bind (set .size) (quotedText l (bytes "\":") s) _ (quoted-proper (set .size) l h (bytes "\":") s) (λ a. branch-proper (object (a .0)) l h seen before (a .1))
     body-proper Kind.objectReference l h seen before s = bind (set .size) (referenceText objectRef l seen s) _ (reference-proper (set .size) l h objectRef seen s) (λ a. tt)
     body-proper Kind.variableReference l h seen before s = bind (set .size) (referenceText variableRef l seen s) _ (reference-proper (set .size) l h variableRef seen s) (λ a. tt)
 
@@ -201,7 +188,7 @@ read-proper capacity source =
     let size : ℕ = length source in
     ask size (leb size sourceLimit) 1 0 _ (omega arith) (omega arith) (omega arith) (λ u.
     bind size (readValue (setting capacity source) depthLimit unseen 0 source) _ (value-proper (setting capacity source) depthLimit unseen 0 source) (λ v.
-    ask size (isEmpty (v .1)) 10 (size - length (v .1)) _ (omega arith) (omega arith) (omega arith) (λ w. tt)))
+    ask size (isEmpty (v .1)) 10 (position (setting capacity source) (v .1)) _ (omega arith) (omega arith) (omega arith) (λ w. tt)))
 
 -- "A refusal returns its number and a position": of reading, 1 to 10, in the plan or at its end
 pub refusal-proper : (capacity : ℕ) (source : List ℕ) (n p : ℕ) → read capacity source ≡ refused n p → InTable (length source) n p

@@ -65,16 +65,21 @@ up-at n zero k d h = absurd (omega arith)
 up-at n (suc c) zero d h = omega arith
 up-at n (suc c) (suc k) d h = up-at (suc n) c k d (omega arith) ∙ omega arith
 
-pub scalar-ordinal : (o i n : ℕ) (x : Scalar) → scalarNode o i n x .ordinal ≡ n
-scalar-ordinal o i n null = refl
-scalar-ordinal o i n (bool b) = refl
-scalar-ordinal o i n (int x) = refl
-scalar-ordinal o i n (float t) = refl
-scalar-ordinal o i n (string q) = refl
+-- words 1 and 5
+pub record Carries (x : Node) (n e : ℕ) : Type 0 where
+  pub ordinal : x .ordinal ≡ n
+  pub end : x .end ≡ e
 
-pub branch-ordinal : (o n : ℕ) (c : Container) (pairs e : ℕ) → branchNode o n c pairs e .ordinal ≡ n
-branch-ordinal o n array pairs e = refl
-branch-ordinal o n (object q) pairs e = refl
+pub scalar-carries : (o i n : ℕ) (x : Scalar) → Carries (scalarNode o i n x) n (suc i)
+scalar-carries o i n null = record { ordinal = refl; end = refl }
+scalar-carries o i n (bool b) = record { ordinal = refl; end = refl }
+scalar-carries o i n (int x) = record { ordinal = refl; end = refl }
+scalar-carries o i n (float t) = record { ordinal = refl; end = refl }
+scalar-carries o i n (string q) = record { ordinal = refl; end = refl }
+
+pub branch-carries : (o n : ℕ) (c : Container) (pairs e : ℕ) → Carries (branchNode o n c pairs e) n e
+branch-carries o n array pairs e = record { ordinal = refl; end = refl }
+branch-carries o n (object q) pairs e = record { ordinal = refl; end = refl }
 
 key-ordinal : (o i : ℕ) (k : Key) → keyNode o i k .ordinal ≡ 0
 key-ordinal o i (intKey x) = refl
@@ -88,12 +93,12 @@ taken-numbers false x n e h = number-none x [] e
 module _ (to : ℕ → ℕ) where
   mutual
     pub table-numbers : (v : Value) (o i n : ℕ) → 1 ≤ n → numbersOf (table to o i n v) ≡ upFrom n (ordinals own v)
-    table-numbers (leaf x) o i n h = taken-numbers true (scalarNode o i n x) n (scalar-ordinal o i n x) h
+    table-numbers (leaf x) o i n h = taken-numbers true (scalarNode o i n x) n (scalar-carries o i n x .ordinal) h
     table-numbers (ref r) o i n h = taken-numbers (own r) (refNode (to (r .ordinal)) i n r) n refl h
     table-numbers (branch b ps) o i n h =
         let e : ℕ = i + suc (nodesIn ps) in
         let o′ : ℕ = o + length (writeContainer (b .container) (writeNumber (b .spelling) (count ps) [])) + 2 in
-        let first : branchNode o n (b .container) (count ps) e .ordinal ≡ n = branch-ordinal o n (b .container) (count ps) e in
+        let first : branchNode o n (b .container) (count ps) e .ordinal ≡ n = branch-carries o n (b .container) (count ps) e .ordinal in
         number-some (branchNode o n (b .container) (count ps) e) (tableIn to o′ (suc i) (suc n) ps) (omega arith)
         ∙ ap₂ {C = List ℕ} _∷_ first (tableIn-numbers ps o′ (suc i) (suc n) (omega arith))
 

@@ -1,5 +1,5 @@
 -- The table says the meaning, each reference resolved. Assumes nothing.
-use mathlib.Core.Path.{_≡_, refl, sym, ap, ap₂, _∙_}
+use mathlib.Core.Path.{_≡_, refl, sym, ap, ap₂, _∙_, subst}
 use mathlib.Core.List.{List, [], _∷_, _++_, map, map-append, append-nil, nil≢cons, head-eq-of-cons-eq, tail-eq-of-cons-eq}
 use mathlib.Core.Bool.{Bool, true, false}
 use Prim.Native.Nat.{ℕ, zero, suc, _+_, _-_, _≤_}
@@ -9,15 +9,15 @@ use Rattle.decimal.proofs.Decide.{Test, passed, failed, test, T-of}
 use lib.ListN.{length, getD, take, drop, List·getD-map}
 use Rattle.reader.specs.Kind.{Kind, tag}
 use Rattle.reader.specs.Tree.{leaf, ref, branch, none, pair, TreePath, count, nodes, nodesIn, only, one, ordinals, ordinalsIn, paths, pathsIn, mapTree, mapPairs}
-use Rattle.reader.specs.Syntax.{intKey, stringKey, null, bool, int, float, string, array, object, Spelling, Key, Scalar, Container, RefKind, objectRef, variableRef, Reference, Value, Values, own, writeKey, writeScalar, writeContainer, writeNumber, write, writePairs, print}
+use Rattle.reader.specs.Syntax.{intKey, stringKey, null, bool, int, float, string, array, object, mapContainer, Quoted, Key, Scalar, Container, RefKind, objectRef, variableRef, refKind, Reference, Value, Values, own, writeKey, writeScalar, writeContainer, writeNumber, write, writePairs, print}
 use Rattle.reader.specs.Keys.{keyMeaning}
 use Rattle.reader.specs.Fits.{Valid}
 use Rattle.reader.specs.Meaning.{meaning, scalarMeaning, headMeaning, referenceMeaning}
-use Rattle.reader.specs.Table.{Node, single, keyNode, scalarNode, branchNode, taken, refNode, table, indices, indicesIn, targetOf, tableOf}
+use Rattle.reader.specs.Table.{Node, keyNode, scalarNode, branchNode, taken, refNode, table, indices, indicesIn, targetOf, tableOf}
 use Rattle.reader.specs.Shows.{numbersOf, upFrom, nodeAt, pairAt, follow, Row, Numbered, Text, ShowsKey, ShowsScalar, ShowsHead, Taking, ShowsReference, Shows, ShowsIn}
 use Rattle.reader.proofs.Maps.{Refs, RefsIn, refs-map, count-map, nodesIn-map}
 use Rattle.reader.proofs.OneText.{Taken, refs-taken}
-use Rattle.reader.proofs.Rows.{at-first, up-append, up-at, scalar-ordinal, branch-ordinal, table-numbers}
+use Rattle.reader.proofs.Rows.{at-first, up-append, up-at, scalar-carries, branch-carries, table-numbers}
 use Rattle.reader.proofs.Places.{InTable, PairsInTable, contents-in, first-in, others-in, contents-text, value-text, others-text, quoted-text, float-text}
 
 module _ (rows : List Node) (to : ℕ → ℕ) where
@@ -32,21 +32,10 @@ module _ (rows : List Node) (to : ℕ → ℕ) where
   node-is (ref r) o i n t = at-first rows i (refNode (to (r .ordinal)) i n r) (t .rest) _ (t .here)
   node-is (branch h ps) o i n t = at-first rows i (firstNode o i n (branch h ps)) _ _ (t .here)
 
-  scalar-end : (o i n : ℕ) (x : Scalar) → scalarNode o i n x .end ≡ suc i
-  scalar-end o i n null = refl
-  scalar-end o i n (bool b) = refl
-  scalar-end o i n (int x) = refl
-  scalar-end o i n (float t) = refl
-  scalar-end o i n (string q) = refl
-
-  branch-end : (o n : ℕ) (c : Container) (pairs e : ℕ) → branchNode o n c pairs e .end ≡ e
-  branch-end o n array pairs e = refl
-  branch-end o n (object q) pairs e = refl
-
   first-end : (v : Value) (o i n : ℕ) → firstNode o i n v .end ≡ i + nodes v
-  first-end (leaf x) o i n = scalar-end o i n x ∙ omega arith
+  first-end (leaf x) o i n = scalar-carries o i n x .end ∙ omega arith
   first-end (ref r) o i n = omega arith
-  first-end (branch h ps) o i n = branch-end o n (h .container) (count ps) (i + suc (nodesIn ps))
+  first-end (branch h ps) o i n = branch-carries o n (h .container) (count ps) (i + suc (nodesIn ps)) .end
 
   -- word 5: "index of the first node after this one and all it holds"
   end-is : (v : Value) (o i n : ℕ) → InTable rows to o i n v → nodeAt rows i .end ≡ i + nodes v
@@ -89,10 +78,10 @@ module _ (rows : List Node) (to : ℕ → ℕ) where
 
   mutual
     indices-carry : (v : Value) (o i n : ℕ) → InTable rows to o i n v → map ordinalAt (indices i v) ≡ upFrom n (ordinals own v)
-    indices-carry (leaf x) o i n t = only-ordinal true i n (ap (λ (y : Node). y .ordinal) (node-is (leaf x) o i n t) ∙ scalar-ordinal o i n x)
+    indices-carry (leaf x) o i n t = only-ordinal true i n (ap (λ (y : Node). y .ordinal) (node-is (leaf x) o i n t) ∙ scalar-carries o i n x .ordinal)
     indices-carry (ref r) o i n t = only-ordinal (own r) i n (ap (λ (y : Node). y .ordinal) (node-is (ref r) o i n t))
     indices-carry (branch h ps) o i n t =
-        ap₂ {C = List ℕ} _∷_ (ap (λ (y : Node). y .ordinal) (node-is (branch h ps) o i n t) ∙ branch-ordinal o n (h .container) (count ps) (i + suc (nodesIn ps)))
+        ap₂ {C = List ℕ} _∷_ (ap (λ (y : Node). y .ordinal) (node-is (branch h ps) o i n t) ∙ branch-carries o n (h .container) (count ps) (i + suc (nodesIn ps)) .ordinal)
         (indicesIn-carry ps (o + length (writeContainer (h .container) (writeNumber (h .spelling) (count ps) [])) + 2) (suc i) (suc n) (contents-in rows to o i n h ps t))
 
     indicesIn-carry : (ps : Values) (o i n : ℕ) → PairsInTable rows to o i n ps → map ordinalAt (indicesIn i ps) ≡ upFrom n (ordinalsIn own ps)
@@ -104,50 +93,39 @@ module _ (rows : List Node) (to : ℕ → ℕ) where
         ∙ sym (up-append n (ordinals own v) (ordinalsIn own ps))
 
   -- ---- what the nodes show
-  row-single : (i : ℕ) (k : Kind) (n c s : ℕ) → nodeAt rows i ≡ single k n c s i → Row rows i k s 0 (suc i)
-  row-single i k n c s e =
-      record { tag = ap (λ (x : Node). x .tag) e; size = ap (λ (x : Node). x .size) e; link = ap (λ (x : Node). x .link) e; end = ap (λ (x : Node). x .end) e }
+  row-is : (i : ℕ) (k : Kind) (x : Node) → nodeAt rows i ≡ x → x .tag ≡ tag k → Row rows i k (x .size) (x .link) (x .end)
+  row-is i k x e t =
+      record { tag = ap (λ (y : Node). y .tag) e ∙ t; size = ap (λ (y : Node). y .size) e; link = ap (λ (y : Node). y .link) e; end = ap (λ (y : Node). y .end) e }
 
-  numbered : (i n : ℕ) → ordinalAt i ≡ n → 1 ≤ n → Numbered rows i
-  numbered i n e h = omega arith
+  ordinal-is : (i : ℕ) (x : Node) → nodeAt rows i ≡ x → ordinalAt i ≡ x .ordinal
+  ordinal-is i x e = ap (λ (y : Node). y .ordinal) e
+
+  content-is : (i : ℕ) (x : Node) → nodeAt rows i ≡ x → nodeAt rows i .content ≡ x .content
+  content-is i x e = ap (λ (y : Node). y .content) e
+
+  numbered : (i : ℕ) (x : Node) → nodeAt rows i ≡ x → 1 ≤ x .ordinal → Numbered rows i
+  numbered i x e h = let o = ordinal-is i x e in omega arith
 
 module _ (source : List ℕ) (rows : List Node) (to : ℕ → ℕ) where
   -- a text at the offset that the node has
-  text-shown : (i o : ℕ) (t : List ℕ) → nodeAt rows i .content ≡ o → take (length t) (drop o source) ≡ t → Text source rows i t
-  text-shown i o t e h = ap (λ (j : ℕ). take (length t) (drop j source)) e ∙ h
+  text-shown : (i : ℕ) (x : Node) (t : List ℕ) → nodeAt rows i ≡ x → take (length t) (drop (x .content) source) ≡ t → Text source rows i t
+  text-shown i x t e h = ap (λ (j : ℕ). take (length t) (drop j source)) (content-is rows to i x e) ∙ h
 
   key-shown : (k : Key) (o i : ℕ) (r : List ℕ) → nodeAt rows i ≡ keyNode o i k → drop o source ≡ writeKey k r → ShowsKey source rows i (keyMeaning k)
-  key-shown (intKey x) o i r e s = (row-single rows to i Kind.int 0 _ 0 e, ap (λ (y : Node). y .ordinal) e, ap (λ (y : Node). y .content) e)
-  key-shown (stringKey q) o i r e s =
-      (row-single rows to i Kind.string 0 _ _ e, ap (λ (y : Node). y .ordinal) e, text-shown i _ (q .text) (ap (λ (y : Node). y .content) e) (quoted-text source o 115 q (59 ∷ r) s))
+  key-shown (intKey x) o i r e s = (row-is rows to i Kind.int _ e refl, ordinal-is rows to i _ e, content-is rows to i _ e)
+  key-shown (stringKey q) o i r e s = (row-is rows to i Kind.string _ e refl, ordinal-is rows to i _ e, text-shown i _ (q .text) e (quoted-text source o 115 q (59 ∷ r) s))
 
   scalar-shown : (x : Scalar) (o i n : ℕ) (r : List ℕ) → nodeAt rows i ≡ scalarNode o i n x → 1 ≤ n → drop o source ≡ writeScalar x r → ShowsScalar source rows i (scalarMeaning x)
-  scalar-shown null o i n r e h s = (row-single rows to i Kind.null n _ 0 e, numbered rows to i n (ap (λ (y : Node). y .ordinal) e) h, ap (λ (y : Node). y .content) e)
-  scalar-shown (bool b) o i n r e h s = (row-single rows to i Kind.bool n _ 0 e, numbered rows to i n (ap (λ (y : Node). y .ordinal) e) h, ap (λ (y : Node). y .content) e)
-  scalar-shown (int x) o i n r e h s = (row-single rows to i Kind.int n _ 0 e, numbered rows to i n (ap (λ (y : Node). y .ordinal) e) h, ap (λ (y : Node). y .content) e)
-  scalar-shown (float t) o i n r e h s = (
-    row-single rows to i Kind.float n _ _ e,
-    numbered rows to i n (ap (λ (y : Node). y .ordinal) e) h,
-    text-shown i _ t (ap (λ (y : Node). y .content) e) (float-text source o 100 t r s),
-  )
-  scalar-shown (string q) o i n r e h s = (
-    row-single rows to i Kind.string n _ _ e,
-    numbered rows to i n (ap (λ (y : Node). y .ordinal) e) h,
-    text-shown i _ (q .text) (ap (λ (y : Node). y .content) e) (quoted-text source o 115 q (59 ∷ r) s),
-  )
+  scalar-shown null o i n r e h s = (row-is rows to i Kind.null _ e refl, numbered rows to i _ e h, content-is rows to i _ e)
+  scalar-shown (bool b) o i n r e h s = (row-is rows to i Kind.bool _ e refl, numbered rows to i _ e h, content-is rows to i _ e)
+  scalar-shown (int x) o i n r e h s = (row-is rows to i Kind.int _ e refl, numbered rows to i _ e h, content-is rows to i _ e)
+  scalar-shown (float t) o i n r e h s = (row-is rows to i Kind.float _ e refl, numbered rows to i _ e h, text-shown i _ t e (float-text source o 100 t r s))
+  scalar-shown (string q) o i n r e h s = (row-is rows to i Kind.string _ e refl, numbered rows to i _ e h, text-shown i _ (q .text) e (quoted-text source o 115 q (59 ∷ r) s))
 
-  head-shown : (c : Container) (w : Spelling) (o i n pairs e : ℕ) (r : List ℕ) → nodeAt rows i ≡ branchNode o n c pairs e → 1 ≤ n → drop o source ≡ writeContainer c r
-      → ShowsHead source rows i pairs e (headMeaning (record { container = c; spelling = w }))
-  head-shown array w o i n pairs e r p h s = (
-    record { tag = ap (λ (x : Node). x .tag) p; size = ap (λ (x : Node). x .size) p; link = ap (λ (x : Node). x .link) p; end = ap (λ (x : Node). x .end) p },
-    numbered rows to i n (ap (λ (y : Node). y .ordinal) p) h,
-    ap (λ (y : Node). y .content) p,
-  )
-  head-shown (object q) w o i n pairs e r p h s = (
-    record { tag = ap (λ (x : Node). x .tag) p; size = ap (λ (x : Node). x .size) p; link = ap (λ (x : Node). x .link) p; end = ap (λ (x : Node). x .end) p },
-    numbered rows to i n (ap (λ (y : Node). y .ordinal) p) h,
-    text-shown i _ (q .text) (ap (λ (y : Node). y .content) p) (quoted-text source o 79 q (58 ∷ r) s),
-  )
+  head-shown : (c : Container) (o i n pairs e : ℕ) (r : List ℕ) → nodeAt rows i ≡ branchNode o n c pairs e → 1 ≤ n → drop o source ≡ writeContainer c r
+      → ShowsHead source rows i pairs e (mapContainer (λ (q : Quoted). q .text) c)
+  head-shown array o i n pairs e r p h s = (row-is rows to i Kind.array _ p refl, numbered rows to i _ p h, content-is rows to i _ p)
+  head-shown (object q) o i n pairs e r p h s = (row-is rows to i Kind.object _ p refl, numbered rows to i _ p h, text-shown i _ (q .text) p (quoted-text source o 79 q (58 ∷ r) s))
 
   -- what the references need: where `env` gives the paths of the ordinals
   module _ (env : List TreePath) where
@@ -162,12 +140,12 @@ module _ (source : List ℕ) (rows : List Node) (to : ℕ → ℕ) where
 
     reference-shown : (r : Reference) (i n : ℕ) → nodeAt rows i ≡ refNode (to (r .ordinal)) i n r → 1 ≤ n → Resolved r → ShowsReference rows i (referenceMeaning env r)
     reference-shown r i n e h g =
-        let link : nodeAt rows i .link ≡ to (r .ordinal) = ap (λ (x : Node). x .link) e in
-        let content : nodeAt rows i .content ≡ r .ordinal = ap (λ (x : Node). x .content) e in
+        let row = row-is rows to i (refKind (r .kind)) (refNode (to (r .ordinal)) i n r) e refl in
+        let content : nodeAt rows i .content ≡ r .ordinal = content-is rows to i _ e in
         record {
-          row = record { tag = ap (λ (x : Node). x .tag) e; size = ap (λ (x : Node). x .size) e; link = link ∙ g .leads; end = ap (λ (x : Node). x .end) e };
-          taking = taking (r .kind) i n h (ap (λ (x : Node). x .ordinal) e);
-          named = ap (ordinalAt rows to) link ∙ g .carries ∙ sym content;
+          row = subst (λ (l : ℕ). Row rows i (refKind (r .kind)) 0 l (suc i)) (g .leads) row;
+          taking = taking (r .kind) i n h (ordinal-is rows to i _ e);
+          named = ap (ordinalAt rows to) (row .link) ∙ g .carries ∙ sym content;
           number = omega (arith, g .least);
         }
 
@@ -180,7 +158,7 @@ module _ (source : List ℕ) (rows : List Node) (to : ℕ → ℕ) where
       shows (ref f) o i n r t h s g = reference-shown f i n (node-is rows to (ref f) o i n t) h g
       shows (branch b ps) o i n r t h s g = (
         rw (count-map keyMeaning scalarMeaning headMeaning (referenceMeaning env) ps, nodesIn-map keyMeaning scalarMeaning headMeaning (referenceMeaning env) ps)
-            (head-shown (b .container) (b .spelling) o i n (count ps) (i + suc (nodesIn ps)) (writeNumber (b .spelling) (count ps) (58 ∷ 123 ∷ writePairs ps (125 ∷ r))) (node-is rows to (branch b ps) o i n t) h s),
+            (head-shown (b .container) o i n (count ps) (i + suc (nodesIn ps)) (writeNumber (b .spelling) (count ps) (58 ∷ 123 ∷ writePairs ps (125 ∷ r))) (node-is rows to (branch b ps) o i n t) h s),
         showsIn ps (o + length (writeContainer (b .container) (writeNumber (b .spelling) (count ps) [])) + 2) (suc i) (suc i) (suc n) (125 ∷ r) (contents-in rows to o i n b ps t) (omega arith)
             (contents-text source o (b .container) (b .spelling) (count ps) (writePairs ps (125 ∷ r)) s) g refl,
       )

@@ -13,11 +13,11 @@ use Rattle.decimal.proofs.Numerals.{digits-are, digits-split, spelling, spelled
 use Rattle.reader.specs.Bytes.{byte, bytes, sameBytes}
 use Rattle.reader.specs.Kind.{Kind, tag, keyKinds}
 use Rattle.reader.specs.Tree.{ref}
-use Rattle.reader.specs.Syntax.{intKey, stringKey, null, bool, int, float, string, array, object, Spelling, Sign, Literal, Quoted, Key, Container, RefKind, refKind, Reference, writeNumber, writeSign, writeQuoted, writeInt, writeString, writeKey, bit, write}
+use Rattle.reader.specs.Syntax.{intKey, stringKey, null, bool, int, float, string, array, object, Spelling, Sign, Literal, Quoted, Key, Container, RefKind, refKind, Reference, writeNumber, writeSign, writeQuoted, writeInt, writeKey, bit, write}
 use Rattle.reader.specs.Limits.{numberLimit, integerLimit, signOf, isFloat, Seen}
 use Rattle.reader.specs.Fits.{IntFits, QuotedFits, KeyFits, allowed}
 use Rattle.reader.specs.Answer.{ok, require}
-use Rattle.reader.specs.Read.{kindOf, tagOf, expect, digits, number, quoted, intText, stringText, boolText, until, floatText, referenceText, objectText, isArray, keyText}
+use Rattle.reader.specs.Read.{kindOf, tagOf, expect, digits, number, intText, quotedText, boolText, until, floatText, referenceText, isArray, keyText}
 use Rattle.reader.proofs.Answers.{ok-same, not-both, bind-ok, require-ok}
 use Rattle.reader.proofs.Floats.{sign-split, until-split}
 
@@ -89,29 +89,6 @@ number-ok l s q e =
     let d = digits-ok l numberLimit s (a .0) (a .1) in
     subst (GotNumber s) (ok-same (a .2)) (record { text = d .text; fits = d .fits })
 
-pub record GotQuoted (s : List ℕ) (q : Quoted × List ℕ) : Type 0 where
-  pub text : s ≡ writeQuoted (q .0) (q .1)
-  pub fits : QuotedFits (q .0)
-
-quoted-ok : (l : ℕ) (s : List ℕ) (q : Quoted × List ℕ) → quoted l s ≡ ok q → GotQuoted s q
-unfolding quoted
-quoted-ok l s q e =
-    let a = bind-ok (number l s) _ q e in
-    let w : Spelling = a .0 .0 .0 in
-    let n : ℕ = a .0 .0 .1 in
-    let b = bind-ok (expect l (bytes ":\"") (a .0 .1)) _ q (a .2) in
-    let c = bind-ok (require (leb n (length (b .0))) 2 l) _ q (b .2) in
-    let d = bind-ok (expect l (bytes "\"") (drop n (b .0))) _ q (c .2) in
-    let na = number-ok l s (a .0) (a .1) in
-    let t : List ℕ = take n (b .0) in
-    let len : length t ≡ n = length-take-le n (b .0) (leb→le n (length (b .0)) (require-ok (leb n (length (b .0))) 2 l (c .0) (c .1))) in
-    let cut : b .0 ≡ t ++ (34 ∷ d .0) = sym (take-append-drop n (b .0)) ∙ ap (λ (x : List ℕ). t ++ x) (expect-ok l (bytes "\"") (drop n (b .0)) (d .0) (d .1)) in
-    subst (GotQuoted s) (ok-same (d .2)) (record {
-      text = na .text ∙ ap (writeNumber w n) (expect-ok l (bytes ":\"") (a .0 .1) (b .0) (b .1) ∙ ap (λ (x : List ℕ). 58 ∷ 34 ∷ x) cut)
-          ∙ ap (λ (m : ℕ). writeNumber w m (58 ∷ 34 ∷ t ++ (34 ∷ d .0))) (sym len);
-      fits = rw len (na .fits);
-    })
-
 pub record GotInt (s : List ℕ) (q : Literal × List ℕ) : Type 0 where
   pub text : tag Kind.int ∷ s ≡ writeInt (q .0) (q .1)
   pub fits : IntFits (q .0)
@@ -130,40 +107,29 @@ int-ok l s q e =
       fits = nb .fits;
     })
 
--- a quoted text between a colon and one byte more
-module _ (l w : ℕ) where
-  enclosed : (s : List ℕ) (q : Quoted × List ℕ) (s₁ s₃ : List ℕ) → expect l (bytes ":") s ≡ ok s₁ → quoted l s₁ ≡ ok q → expect l (w ∷ []) (q .1) ≡ ok s₃
-      → s ≡ 58 ∷ writeQuoted (q .0) (w ∷ s₃)
-  enclosed s q s₁ s₃ a b c = expect-ok l (bytes ":") s s₁ a ∙ ap {B = List ℕ} (λ x. 58 ∷ x) (quoted-ok l s₁ q b .text ∙ ap (writeQuoted (q .0)) (expect-ok l (w ∷ []) (q .1) s₃ c))
-
-pub record GotString (s : List ℕ) (q : Quoted × List ℕ) : Type 0 where
-  pub text : tag Kind.string ∷ s ≡ writeString (q .0) (q .1)
+-- a quoted text behind its tag's colon, closed by `"` and one byte more
+pub record GotQuoted (c : ℕ) (s : List ℕ) (q : Quoted × List ℕ) : Type 0 where
+  pub text : s ≡ byte ":" ∷ writeQuoted (q .0) (c ∷ q .1)
   pub fits : QuotedFits (q .0)
 
-pub string-ok : (l : ℕ) (s : List ℕ) (q : Quoted × List ℕ) → stringText l s ≡ ok q → GotString s q
-unfolding stringText
-string-ok l s q e =
+pub quoted-ok : (l c : ℕ) (s : List ℕ) (q : Quoted × List ℕ) → quotedText l (byte "\"" ∷ c ∷ []) s ≡ ok q → GotQuoted c s q
+unfolding quotedText
+quoted-ok l c s q e =
     let a = bind-ok (expect l (bytes ":") s) _ q e in
-    let b = bind-ok (quoted l (a .0)) _ q (a .2) in
-    let c = bind-ok (expect l (bytes ";") (b .0 .1)) _ q (b .2) in
-    subst (GotString s) (ok-same (c .2)) (record {
-      text = ap {B = List ℕ} (λ x. 115 ∷ x) (enclosed l 59 s (b .0) (a .0) (c .0) (a .1) (b .1) (c .1));
-      fits = quoted-ok l (a .0) (b .0) (b .1) .fits;
-    })
-
-pub record GotObject (s : List ℕ) (q : Quoted × List ℕ) : Type 0 where
-  pub text : s ≡ byte ":" ∷ writeQuoted (q .0) (byte ":" ∷ q .1)
-  pub fits : QuotedFits (q .0)
-
-pub object-ok : (l : ℕ) (s : List ℕ) (q : Quoted × List ℕ) → objectText l s ≡ ok q → GotObject s q
-unfolding objectText
-object-ok l s q e =
-    let a = bind-ok (expect l (bytes ":") s) _ q e in
-    let b = bind-ok (quoted l (a .0)) _ q (a .2) in
-    let c = bind-ok (expect l (bytes ":") (b .0 .1)) _ q (b .2) in
-    subst (GotObject s) (ok-same (c .2)) (record {
-      text = enclosed l 58 s (b .0) (a .0) (c .0) (a .1) (b .1) (c .1);
-      fits = quoted-ok l (a .0) (b .0) (b .1) .fits;
+    let b = bind-ok (number l (a .0)) _ q (a .2) in
+    let w : Spelling = b .0 .0 .0 in
+    let n : ℕ = b .0 .0 .1 in
+    let d = bind-ok (expect l (bytes ":\"") (b .0 .1)) _ q (b .2) in
+    let f = bind-ok (require (leb n (length (d .0))) 2 l) _ q (d .2) in
+    let g = bind-ok (expect l (byte "\"" ∷ c ∷ []) (drop n (d .0))) _ q (f .2) in
+    let nb = number-ok l (a .0) (b .0) (b .1) in
+    let t : List ℕ = take n (d .0) in
+    let len : length t ≡ n = length-take-le n (d .0) (leb→le n (length (d .0)) (require-ok (leb n (length (d .0))) 2 l (f .0) (f .1))) in
+    let cut : d .0 ≡ t ++ (34 ∷ c ∷ g .0) = sym (take-append-drop n (d .0)) ∙ ap (λ (x : List ℕ). t ++ x) (expect-ok l (byte "\"" ∷ c ∷ []) (drop n (d .0)) (g .0) (g .1)) in
+    subst (GotQuoted c s) (ok-same (g .2)) (record {
+      text = expect-ok l (bytes ":") s (a .0) (a .1) ∙ ap {B = List ℕ} (λ x. 58 ∷ x) (nb .text ∙ ap (writeNumber w n) (expect-ok l (bytes ":\"") (b .0 .1) (d .0) (d .1) ∙ ap (λ (x : List ℕ). 58 ∷ 34 ∷ x) cut)
+          ∙ ap (λ (m : ℕ). writeNumber w m (58 ∷ 34 ∷ t ++ (34 ∷ c ∷ g .0))) (sym len));
+      fits = rw len (nb .fits);
     })
 
 -- one byte, 0 or 1
@@ -237,9 +203,9 @@ keyText-ok Kind.int l s q e =
     let g = int-ok l s (a .0) (a .1) in
     subst (GotText Kind.int s) (ok-same (a .2)) (record { text = g .text; fits = g .fits })
 keyText-ok Kind.string l s q e =
-    let a = bind-ok (stringText l s) _ q e in
-    let g = string-ok l s (a .0) (a .1) in
-    subst (GotText Kind.string s) (ok-same (a .2)) (record { text = g .text; fits = g .fits })
+    let a = bind-ok (quotedText l (bytes "\";") s) _ q e in
+    let g = quoted-ok l (byte ";") s (a .0) (a .1) in
+    subst (GotText Kind.string s) (ok-same (a .2)) (record { text = ap {B = List ℕ} (λ x. 115 ∷ x) (g .text); fits = g .fits })
 keyText-ok Kind.null l s q e = absurd (not-both e)
 keyText-ok Kind.bool l s q e = absurd (not-both e)
 keyText-ok Kind.float l s q e = absurd (not-both e)

@@ -51,15 +51,6 @@ number l s = do
   ((z, n), s₁) ← digits l numberLimit s
   ok ((record { zeros = z }, n), s₁)
 
--- a number, then "that many bytes of any kind" between quotes
-unfoldable pub quoted : (l : ℕ) → List ℕ → Answer (Quoted × List ℕ)
-quoted l s = do
-  ((w, n), s₁) ← number l s
-  s₂ ← expect l (bytes ":\"") s₁
-  _ ← require (leb n (length s₂)) 2 l
-  s₃ ← expect l (bytes "\"") (drop n s₂)
-  ok (record { spelling = w; text = take n s₂ }, s₃)
-
 unfoldable pub intText : (l : ℕ) → List ℕ → Answer (Literal × List ℕ)
 intText l s = do
   s₁ ← expect l (bytes ":") s
@@ -67,12 +58,15 @@ intText l s = do
   s₃ ← expect l (bytes ";") s₂
   ok (record { sign = signOf s₁ .0; zeros = z; magnitude = n }, s₃)
 
-unfoldable pub stringText : (l : ℕ) → List ℕ → Answer (Quoted × List ℕ)
-stringText l s = do
+-- a number, `:"`, "that many bytes of any kind", and what closes them: `";` in s, `":` in O
+unfoldable pub quotedText : (l : ℕ) → (close : List ℕ) → List ℕ → Answer (Quoted × List ℕ)
+quotedText l close s = do
   s₁ ← expect l (bytes ":") s
-  (q, s₂) ← quoted l s₁
-  s₃ ← expect l (bytes ";") s₂
-  ok (q, s₃)
+  ((w, n), s₂) ← number l s₁
+  s₃ ← expect l (bytes ":\"") s₂
+  _ ← require (leb n (length s₃)) 2 l
+  s₄ ← expect l close (drop n s₃)
+  ok (record { spelling = w; text = take n s₃ }, s₄)
 
 unfoldable pub boolText : (l : ℕ) → List ℕ → Answer (Bool × List ℕ)
 boolText l s = do
@@ -98,14 +92,6 @@ referenceText k l seen s = do
   _ ← require (ltb 0 n && leb n seen) 6 l
   ok (record { kind = k; spelling = w; ordinal = n }, s₃)
 
--- up to the count
-unfoldable pub objectText : (l : ℕ) → List ℕ → Answer (Quoted × List ℕ)
-objectText l s = do
-  s₁ ← expect l (bytes ":") s
-  (q, s₂) ← quoted l s₁
-  s₃ ← expect l (bytes ":") s₂
-  ok (q, s₃)
-
 -- ---- values and pairs
 
 -- what a reading goes by: the plan's length, and the table's in nodes (its room)
@@ -126,7 +112,7 @@ isArray (object q) = false
 
 unfoldable pub keyText : Kind → (l : ℕ) → List ℕ → Answer (Key × List ℕ)
 keyText Kind.int l s = intText l s >>= λ (x, s₁). ok (intKey x, s₁)
-keyText Kind.string l s = stringText l s >>= λ (q, s₁). ok (stringKey q, s₁)
+keyText Kind.string l s = quotedText l (bytes "\";") s >>= λ (q, s₁). ok (stringKey q, s₁)
 keyText Kind.null l s = refused 4 l
 keyText Kind.bool l s = refused 4 l
 keyText Kind.float l s = refused 4 l
@@ -173,9 +159,9 @@ module _ (set : Setting) where
   readBody inner Kind.bool l seen before s = boolText l s >>= λ (b, s₁). ok (leaf (bool b), s₁)
   readBody inner Kind.int l seen before s = intText l s >>= λ (x, s₁). ok (leaf (int x), s₁)
   readBody inner Kind.float l seen before s = floatText l s >>= λ (t, s₁). ok (leaf (float t), s₁)
-  readBody inner Kind.string l seen before s = stringText l s >>= λ (q, s₁). ok (leaf (string q), s₁)
+  readBody inner Kind.string l seen before s = quotedText l (bytes "\";") s >>= λ (q, s₁). ok (leaf (string q), s₁)
   readBody inner Kind.array l seen before s = expect l (bytes ":") s >>= λ s₁. readBranch inner array l seen before s₁
-  readBody inner Kind.object l seen before s = objectText l s >>= λ (q, s₁). readBranch inner (object q) l seen before s₁
+  readBody inner Kind.object l seen before s = quotedText l (bytes "\":") s >>= λ (q, s₁). readBranch inner (object q) l seen before s₁
   readBody inner Kind.objectReference l seen before s = referenceText objectRef l seen s >>= λ (r, s₁). ok (ref r, s₁)
   readBody inner Kind.variableReference l seen before s = referenceText variableRef l seen s >>= λ (r, s₁). ok (ref r, s₁)
 
@@ -194,5 +180,5 @@ unfoldable pub read : (capacity : ℕ) → List ℕ → Answer Value
 read capacity source = do
   _ ← require (leb (length source) sourceLimit) 1 0
   (v, s) ← readValue (setting capacity source) depthLimit unseen 0 source
-  _ ← require (isEmpty s) 10 (length source - length s)
+  _ ← require (isEmpty s) 10 (position (setting capacity source) s)
   ok v
