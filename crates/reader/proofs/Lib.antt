@@ -10,6 +10,7 @@ pub mod Refusals
 pub mod Maps
 pub mod Fronts
 pub mod Rows
+pub mod Numbers
 pub mod Places
 pub mod NormalForm
 pub mod OneText

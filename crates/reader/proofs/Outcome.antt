@@ -13,7 +13,7 @@ use Rattle.reader.specs.Shows.{numbersOf, upFrom}
 use Rattle.reader.specs.Reading.{capacityOf, answer, over, filled, tableAfter}
 use Rattle.reader.proofs.Inversion.{read-ok}
 use Rattle.reader.proofs.Rows.{table-length}
-use Rattle.reader.proofs.Tables.{numbers-in-order}
+use Rattle.reader.proofs.Numbers.{numbers-in-order}
 
 pub tableOf-length : (v : Value) → length (tableOf v) ≡ nodes v
 unfolding tableOf

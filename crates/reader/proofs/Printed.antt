@@ -129,7 +129,7 @@ module _ (set : Setting) where
   mutual
     unfolding write
 
-    pub value-printed : (v : Value) (d : ℕ) (seen : Seen) (before : ℕ) (r : List ℕ) → Sound v → Limited v → Backward seen v → Shallow d v → before + nodes v ≤ set .capacity
+    value-printed : (v : Value) (d : ℕ) (seen : Seen) (before : ℕ) (r : List ℕ) → Sound v → Limited v → Backward seen v → Shallow d v → before + nodes v ≤ set .capacity
         → readValue set d seen before (write v r) ≡ ok (v, r)
     value-printed (leaf x) zero seen before r s i b h m = absurd (omega arith)
     value-printed (leaf x) (suc d) seen before r s i b h m = scalar-printed d seen before x r (omega arith) s
@@ -140,7 +140,7 @@ module _ (set : Setting) where
         container-printed (h .container) (h .spelling) ps d seen before r (omega arith) (s .0) (i .0)
         (pairs-printed ps d (h .container) [] (seeBranch seen) (suc before) (byte "}" ∷ r) (s .1) (i .1) b (one-level d ps (e .1)) (omega arith))
 
-    pub pairs-printed : (ps : Values) (d : ℕ) (c : Container) (earlier : List Key) (seen : Seen) (before : ℕ) (r : List ℕ)
+    pairs-printed : (ps : Values) (d : ℕ) (c : Container) (earlier : List Key) (seen : Seen) (before : ℕ) (r : List ℕ)
         → SoundIn c earlier ps → LimitedIn ps → BackwardIn seen ps → ShallowIn d ps → before + nodesIn ps ≤ set .capacity
         → readPairs set (readValue set d) c (count ps) earlier seen before (writePairs ps r) ≡ ok (ps, r)
     pairs-printed none d c earlier seen before r s i b e m = refl

@@ -1,11 +1,9 @@
 -- The table says the meaning, each reference resolved. Assumes nothing.
 use mathlib.Core.Path.{_≡_, refl, sym, ap, ap₂, _∙_, subst}
-use mathlib.Core.List.{List, [], _∷_, _++_, map, map-append, append-nil, nil≢cons, head-eq-of-cons-eq, tail-eq-of-cons-eq}
+use mathlib.Core.List.{List, [], _∷_, _++_, map, map-append, append-nil}
 use mathlib.Core.Bool.{Bool, true, false}
-use Prim.Native.Nat.{ℕ, zero, suc, _+_, _-_, _≤_}
+use Prim.Native.Nat.{ℕ, suc, _+_, _-_, _≤_}
 use native.Mathlib.Omega.{arith}
-use lib.Dec.{eqb, eqb→eq}
-use Rattle.decimal.proofs.Decide.{Test, passed, failed, test, T-of}
 use lib.ListN.{length, getD, take, drop, List·getD-map}
 use Rattle.reader.specs.Kind.{Kind, tag}
 use Rattle.reader.specs.Tree.{leaf, ref, branch, none, pair, TreePath, count, nodes, nodesIn, only, one, ordinals, ordinalsIn, paths, pathsIn, mapTree, mapPairs}
@@ -14,10 +12,11 @@ use Rattle.reader.specs.Keys.{keyMeaning}
 use Rattle.reader.specs.Fits.{Valid}
 use Rattle.reader.specs.Meaning.{meaning, scalarMeaning, headMeaning, referenceMeaning}
 use Rattle.reader.specs.Table.{Node, keyNode, scalarNode, branchNode, taken, refNode, table, indices, indicesIn, targetOf, tableOf}
-use Rattle.reader.specs.Shows.{numbersOf, upFrom, nodeAt, pairAt, follow, Row, Numbered, Text, ShowsKey, ShowsScalar, ShowsHead, Taking, ShowsReference, Shows, ShowsIn}
+use Rattle.reader.specs.Shows.{upFrom, nodeAt, pairAt, follow, Row, Numbered, Text, ShowsKey, ShowsScalar, ShowsHead, Taking, ShowsReference, Shows, ShowsIn}
 use Rattle.reader.proofs.Maps.{Refs, RefsIn, refs-map, count-map, nodesIn-map}
 use Rattle.reader.proofs.OneText.{Taken, refs-taken}
-use Rattle.reader.proofs.Rows.{at-first, up-append, up-at, scalar-carries, branch-carries, table-numbers}
+use Rattle.reader.proofs.Rows.{at-first, scalar-carries, branch-carries}
+use Rattle.reader.proofs.Numbers.{up-append, up-at}
 use Rattle.reader.proofs.Places.{InTable, PairsInTable, contents-in, first-in, others-in, contents-text, value-text, others-text, quoted-text, float-text}
 
 module _ (rows : List Node) (to : ℕ → ℕ) where
@@ -205,61 +204,3 @@ module _ (v : Value) (f : Valid v) where
 pub table-says : (v : Value) → Valid v → Shows (print v) (tableOf v) 0 (meaning v)
 unfolding tableOf meaning
 table-says v f = shows (print v) (tableOf v) (targetOf v) (paths own v) v 0 0 1 [] (whole v f) (omega arith) refl (all-resolved v f)
-
--- "Each value takes the next number, from 1, when its letter is met." The words 1 that are not 0 are 1, 2, 3 … in table order.
-pub numbers-in-order : (v : Value) → numbersOf (tableOf v) ≡ upFrom 1 (ordinals own v)
-unfolding tableOf
-numbers-in-order v = table-numbers (targetOf v) v 0 0 1 (omega arith)
-
--- ---- one node carries a number
-data Step (x : Node) (rows : List Node) (n : ℕ) : Type 0 where
-  passes : x .ordinal ≡ 0 → (c : ℕ) → numbersOf rows ≡ upFrom n c → Step x rows n
-  takes : x .ordinal ≡ n → (c : ℕ) → numbersOf rows ≡ upFrom (suc n) c → Step x rows n
-
-takes-one : (x : Node) (rows : List Node) (n c : ℕ) → x .ordinal ∷ numbersOf rows ≡ upFrom n c → Step x rows n
-takes-one x rows n zero e = absurd (nil≢cons (sym e))
-takes-one x rows n (suc c) e = takes (head-eq-of-cons-eq e) c (tail-eq-of-cons-eq e)
-
-step : (x : Node) (rows : List Node) (n c : ℕ) → numbersOf (x ∷ rows) ≡ upFrom n c → Step x rows n
-step x rows n c e = go (test (eqb (x .ordinal) 0))
-  where
-    go : Test (eqb (x .ordinal) 0) → Step x rows n
-    go (passed t) = passes (eqb→eq (x .ordinal) 0 (T-of t)) c (rw (t, numbersOf) at e)
-    go (failed t) = takes-one x rows n c (rw (t, numbersOf) at e)
-
-later : (rows : List Node) (n c i : ℕ) → numbersOf rows ≡ upFrom n c → 1 ≤ nodeAt rows i .ordinal → n ≤ nodeAt rows i .ordinal
-later [] n c i e h = absurd (omega arith)
-later (x ∷ rows) n c zero e h = go (step x rows n c e)
-  where
-    go : Step x rows n → n ≤ x .ordinal
-    go (passes z d s) = absurd (omega arith)
-    go (takes z d s) = omega arith
-later (x ∷ rows) n c (suc i) e h = go (step x rows n c e) (λ m d s. later rows m d i s h)
-  where
-    go : Step x rows n → ((m d : ℕ) → numbersOf rows ≡ upFrom m d → m ≤ nodeAt rows i .ordinal) → n ≤ nodeAt rows i .ordinal
-    go (passes z d s) r = r n d s
-    go (takes z d s) r = let k = r (suc n) d s in omega arith
-
--- the node that carries a number is the only one
-once : (rows : List Node) (n c i j : ℕ) → numbersOf rows ≡ upFrom n c → 1 ≤ nodeAt rows i .ordinal → nodeAt rows i .ordinal ≡ nodeAt rows j .ordinal → i ≡ j
-once [] n c i j e h s = absurd (omega arith)
-once (x ∷ rows) n c zero zero e h s = refl
-once (x ∷ rows) n c zero (suc j) e h s = go (step x rows n c e)
-  where
-    go : Step x rows n → zero ≡ suc j
-    go (passes z d t) = absurd (omega arith)
-    go (takes z d t) = absurd (omega (arith, later rows (suc n) d j t (omega arith)))
-once (x ∷ rows) n c (suc i) zero e h s = go (step x rows n c e)
-  where
-    go : Step x rows n → suc i ≡ zero
-    go (passes z d t) = absurd (omega arith)
-    go (takes z d t) = absurd (omega (arith, later rows (suc n) d i t h))
-once (x ∷ rows) n c (suc i) (suc j) e h s = go (step x rows n c e) (λ m d t. once rows m d i j t h s)
-  where
-    go : Step x rows n → ((m d : ℕ) → numbersOf rows ≡ upFrom m d → i ≡ j) → suc i ≡ suc j
-    go (passes z d t) r = ap suc (r n d t)
-    go (takes z d t) r = ap suc (r (suc n) d t)
-
--- "index of the node named": no other node has that number in word 1
-pub one-carrier : (v : Value) (i j : ℕ) → 1 ≤ nodeAt (tableOf v) i .ordinal → nodeAt (tableOf v) i .ordinal ≡ nodeAt (tableOf v) j .ordinal → i ≡ j
-one-carrier v i j h e = once (tableOf v) 1 (ordinals own v) i j (numbers-in-order v) h e
