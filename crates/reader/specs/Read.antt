@@ -87,10 +87,10 @@ floatText l s = do
 unfoldable pub referenceText : RefKind → (l : ℕ) → Seen → List ℕ → Answer (Reference × List ℕ)
 referenceText k l seen s = do
   s₁ ← expect l (bytes ":") s
-  ((w, n), s₂) ← number l s₁
+  ((w, t), s₂) ← number l s₁
   s₃ ← expect l (bytes ";") s₂
-  _ ← require (ltb 0 n && leb n seen) 6 l
-  ok (record { kind = k; spelling = w; ordinal = n }, s₃)
+  _ ← require (ltb 0 t && leb t seen) 6 l
+  ok (record { kind = k; spelling = w; ordinal = t }, s₃)
 
 -- ---- values and pairs
 
