@@ -14,17 +14,12 @@ use Rattle.reader.specs.Bytes.{byte, bytes, isEmpty, sameBytes}
 use Rattle.reader.specs.Syntax.{Sign, unsigned, plus, minus, writeSign}
 use Rattle.reader.specs.Limits.{signOf, isExponent, fractionOf, isDecimal, isFloat}
 use Rattle.reader.specs.Read.{until}
+use Rattle.reader.proofs.Keys.{bytes-equal}
 
 -- ---- texts, taken apart
 pub empty-ok : (s : List ℕ) → T (isEmpty s) → s ≡ []
 empty-ok [] t = refl
 empty-ok (b ∷ s) t = absurd t
-
-pub same-bytes : (s t : List ℕ) → T (sameBytes s t) → s ≡ t
-same-bytes [] [] h = refl
-same-bytes [] (b ∷ t) h = absurd h
-same-bytes (a ∷ s) [] h = absurd h
-same-bytes (a ∷ s) (b ∷ t) h = rw (eqb→eq a b (and-left (eqb a b) (sameBytes s t) h), same-bytes s t (and-right (eqb a b) (sameBytes s t) h))
 
 pub or-cases : (a b : Bool) (P : Type 0) → (T a → P) → (T b → P) → T (a || b) → P
 or-cases true b P f g h = f tt
@@ -111,6 +106,6 @@ unfolding isFloat
 float-semicolon t h =
     or-cases (sameBytes t (bytes "INF") || sameBytes t (bytes "-INF") || sameBytes t (bytes "NAN")) (isDecimal (signOf t .1)) (T (noSemicolon t))
     (λ u. or-cases (sameBytes t (bytes "INF") || sameBytes t (bytes "-INF")) (sameBytes t (bytes "NAN")) (T (noSemicolon t))
-    (λ v. or-cases (sameBytes t (bytes "INF")) (sameBytes t (bytes "-INF")) (T (noSemicolon t)) (λ w. rw (same-bytes t (bytes "INF") w) tt) (λ w. rw (same-bytes t (bytes "-INF") w) tt) v)
-    (λ v. rw (same-bytes t (bytes "NAN") v) tt) u)
+    (λ v. or-cases (sameBytes t (bytes "INF")) (sameBytes t (bytes "-INF")) (T (noSemicolon t)) (λ w. rw (bytes-equal t (bytes "INF") w) tt) (λ w. rw (bytes-equal t (bytes "-INF") w) tt) v)
+    (λ v. rw (bytes-equal t (bytes "NAN") v) tt) u)
     (λ u. none-signed t (none-decimal (signOf t .1) u)) h

@@ -1,6 +1,7 @@
 pub mod Cases
 pub mod Tags
 pub mod Answers
+pub mod Keys
 pub mod Floats
 pub mod Texts
 pub mod Printed

@@ -1,9 +1,9 @@
 -- What reading answers and leaves: the counts are the table's, and the table keeps its length. Assumes nothing.
 use mathlib.Core.Path.{_≡_, refl, sym, ap, ap₂, _∙_}
-use mathlib.Core.List.{List, [], _∷_}
+use mathlib.Core.List.{List, [], _∷_, _++_}
 use Prim.Native.Nat.{ℕ, zero, suc, _*_, _/_, _≤_}
 use native.Mathlib.Omega.{arith}
-use lib.ListN.{length, drop, length-append, length-drop, length-replicate}
+use lib.ListN.{length, drop, replicate, length-append, length-drop, length-replicate}
 use Rattle.reader.specs.Tree.{nodes, ordinals}
 use Rattle.reader.specs.Syntax.{Value, own}
 use Rattle.reader.specs.Answer.{Answer, ok, refused}
@@ -48,3 +48,13 @@ filled-length source t (refused n p) e = length-replicate (length t) 0
 pub after-length : (source t : List ℕ) → length (tableAfter source t) ≡ length t
 unfolding tableAfter
 after-length source t = filled-length source t (read (capacityOf t) source) refl
+
+-- "Words after the last node keep what they held": the words of the nodes, then what the table held
+pub after-accepted : (source t : List ℕ) (v : Value) → read (capacityOf t) source ≡ ok v → tableAfter source t ≡ flat (tableOf v) ++ drop (nodes v * width) t
+unfolding tableAfter
+after-accepted source t v e = rw (e, filled) (ap (λ (n : ℕ). flat (tableOf v) ++ drop n t) (flat-length (tableOf v) ∙ ap (λ (n : ℕ). n * width) (tableOf-length v)))
+
+-- "A refusal … makes every word of the table zero"
+pub after-refused : (source t : List ℕ) (n p : ℕ) → read (capacityOf t) source ≡ refused n p → tableAfter source t ≡ replicate (length t) 0
+unfolding tableAfter
+after-refused source t n p e = rw (e, filled)

@@ -1,4 +1,4 @@
--- Bytes as numbers, and texts written readably.
+-- Bytes as numbers, and texts written readably. (Nothing rests on a byte being below 256.)
 use mathlib.Core.List.{List, [], _∷_}
 use mathlib.Core.Bool.{Bool, true, false, _&&_}
 use Prim.Native.Nat.{ℕ}

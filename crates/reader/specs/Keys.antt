@@ -46,6 +46,7 @@ sameMeaning (stringKey s) (stringKey t) = sameBytes s t
 abbrev pub sameKey : Key → Key → Bool
 sameKey j k = sameMeaning (keyMeaning j) (keyMeaning k)
 
+-- 9: "key equal to an earlier key of its container"
 abbrev pub hasKey : Key → List Key → Bool
 hasKey k [] = false
 hasKey k (j ∷ js) = sameKey k j || hasKey k js

@@ -106,12 +106,15 @@ writeSign unsigned r = r
 writeSign plus r = byte "+" ∷ r
 writeSign minus r = byte "-" ∷ r
 
+-- from the number on to the closing quote
 abbrev pub writeQuoted : Quoted → List ℕ → List ℕ
 writeQuoted q r = writeNumber (q .spelling) (length (q .text)) (byte ":" ∷ byte "\"" ∷ q .text ++ (byte "\"" ∷ r))
 
+-- i: "`i:`, optional `+` or `-`, digits, `;`"
 abbrev pub writeInt : Literal → List ℕ → List ℕ
 writeInt x r = tag Kind.int ∷ byte ":" ∷ writeSign (x .sign) (spelled (x .zeros) (x .magnitude) ++ (byte ";" ∷ r))
 
+-- s: "`s:`, number, `:"`, that many bytes of any kind, `";`"
 abbrev pub writeString : Quoted → List ℕ → List ℕ
 writeString q r = tag Kind.string ∷ byte ":" ∷ writeQuoted q (byte ";" ∷ r)
 
@@ -123,6 +126,7 @@ abbrev pub bit : Bool → ℕ
 bit false = byte "0"
 bit true = byte "1"
 
+-- N: "`N;`". b: "`b:0;` or `b:1;`". d: "`d:`, float text, `;`"
 abbrev pub writeScalar : Scalar → List ℕ → List ℕ
 writeScalar null r = tag Kind.null ∷ byte ";" ∷ r
 writeScalar (bool b) r = tag Kind.bool ∷ byte ":" ∷ bit b ∷ byte ";" ∷ r
@@ -130,11 +134,12 @@ writeScalar (int x) r = writeInt x r
 writeScalar (float t) r = tag Kind.float ∷ byte ":" ∷ t ++ (byte ";" ∷ r)
 writeScalar (string q) r = writeString q r
 
--- up to the count
+-- up to the count. a: "`a:`, number, `:{`, that many pairs, `}`". O: "`O:`, number, `:"`, that many bytes, `":`, number, `:{`, that many pairs, `}`"
 abbrev pub writeContainer : Container → List ℕ → List ℕ
 writeContainer array r = tag Kind.array ∷ byte ":" ∷ r
 writeContainer (object q) r = tag Kind.object ∷ byte ":" ∷ writeQuoted q (byte ":" ∷ r)
 
+-- r, R: "letter, `:`, number, `;`"
 unfoldable mutual
   pub write : Value → List ℕ → List ℕ
   write (leaf x) r = writeScalar x r

@@ -9,13 +9,18 @@ use Rattle.reader.specs.Tree.{leaf, ref, branch, none, pair, count, node
 use Rattle.reader.specs.Keys.{Integer, nonneg, negsuc, integer}
 use Rattle.reader.specs.Syntax.{intKey, stringKey, null, bool, int, float, string, array, object, Quoted, Key, Scalar, Container, refKind, Reference, Value, Values, own, write, writeKey, writeNumber, writeContainer}
 
--- words 0 to 5 of a node
 pub record Node : Type 0 where
+  -- word 0: "the letter's byte"
   pub tag : ℕ
+  -- word 1: "the number taken, else 0"
   pub ordinal : ℕ
+  -- word 2: "b: 0 or 1. i: the integer's two's complement pattern. d, s: offset of the text. O: offset of the class name. r, R: number named. Else 0"
   pub content : ℕ
+  -- word 3: "d, s, O: length of that text, else 0"
   pub size : ℕ
+  -- word 4: "a, O: count of pairs. r, R: index of the node named. Else 0"
   pub link : ℕ
+  -- word 5: "index of the first node after this one and all it holds"
   pub end : ℕ
 
 -- "six to a node"

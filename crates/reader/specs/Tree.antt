@@ -35,6 +35,7 @@ module _ {K L H R : Type 0} where
     nodesIn none = 0
     nodesIn (pair k v ps) = suc (nodes v + nodesIn ps)
 
+-- 1 or nothing, as a number and as a list
 abbrev pub one : Bool → ℕ
 one true = 1
 one false = 0
