@@ -19,6 +19,24 @@ pub tableOf-length : (v : Value) → length (tableOf v) ≡ nodes v
 unfolding tableOf
 tableOf-length v = table-length (targetOf v) v 0 0 1
 
+pub flat-length : (ns : List Node) → length (flat ns) ≡ length ns * width
+flat-length [] = refl
+flat-length (n ∷ ns) = omega (arith, flat-length ns)
+
+-- ---- what stands in the table afterwards
+
+-- "Words after the last node keep what they held": the words of the nodes, then what the table held
+pub after-accepted : (source t : List ℕ) (v : Value) → read (capacityOf t) source ≡ ok v → tableAfter source t ≡ flat (tableOf v) ++ drop (nodes v * width) t
+unfolding tableAfter
+after-accepted source t v e = rw (e, filled) (ap (λ (n : ℕ). flat (tableOf v) ++ drop n t) (flat-length (tableOf v) ∙ ap (λ (n : ℕ). n * width) (tableOf-length v)))
+
+-- "A refusal … makes every word of the table zero"
+pub after-refused : (source t : List ℕ) (n p : ℕ) → read (capacityOf t) source ≡ refused n p → tableAfter source t ≡ replicate (length t) 0
+unfolding tableAfter
+after-refused source t n p e = rw (e, filled)
+
+-- ---- the counts
+
 up-length : (n c : ℕ) → length (upFrom n c) ≡ c
 up-length n zero = refl
 up-length n (suc c) = ap suc (up-length (suc n) c)
@@ -31,16 +49,12 @@ answer-counts capacity source v e =
     rw e (ap₂ (λ (a b : ℕ). ok (record { nodes = a; ordinals = b })) (sym (tableOf-length v)) (sym (ap length (numbers-in-order v) ∙ up-length 1 (ordinals own v))))
 
 -- ---- the table keeps its length
-pub flat-length : (ns : List Node) → length (flat ns) ≡ length ns * width
-flat-length [] = refl
-flat-length (n ∷ ns) = omega (arith, flat-length ns)
-
 over-length : (ws t : List ℕ) → length ws ≤ length t → length (over ws t) ≡ length t
 over-length ws t h = length-append ws (drop (length ws) t) ∙ omega (arith, length-drop (length ws) t)
 
 filled-length : (source t : List ℕ) (a : Answer Value) → read (capacityOf t) source ≡ a → length (filled a t) ≡ length t
 filled-length source t (ok v) e =
-    let small : nodes v ≤ length t / 6 = read-ok (capacityOf t) source v e .fits .small in
+    let small : nodes v ≤ capacityOf t = read-ok (capacityOf t) source v e .fits .small in
     over-length (flat (tableOf v)) t (omega (arith, flat-length (tableOf v), tableOf-length v))
 filled-length source t (refused n p) e = length-replicate (length t) 0
 
@@ -48,13 +62,3 @@ filled-length source t (refused n p) e = length-replicate (length t) 0
 pub after-length : (source t : List ℕ) → length (tableAfter source t) ≡ length t
 unfolding tableAfter
 after-length source t = filled-length source t (read (capacityOf t) source) refl
-
--- "Words after the last node keep what they held": the words of the nodes, then what the table held
-pub after-accepted : (source t : List ℕ) (v : Value) → read (capacityOf t) source ≡ ok v → tableAfter source t ≡ flat (tableOf v) ++ drop (nodes v * width) t
-unfolding tableAfter
-after-accepted source t v e = rw (e, filled) (ap (λ (n : ℕ). flat (tableOf v) ++ drop n t) (flat-length (tableOf v) ∙ ap (λ (n : ℕ). n * width) (tableOf-length v)))
-
--- "A refusal … makes every word of the table zero"
-pub after-refused : (source t : List ℕ) (n p : ℕ) → read (capacityOf t) source ≡ refused n p → tableAfter source t ≡ replicate (length t) 0
-unfolding tableAfter
-after-refused source t n p e = rw (e, filled)
