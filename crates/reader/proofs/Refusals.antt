@@ -1,8 +1,8 @@
 -- What a refusal of reading may be: a number of paper 01's table, and a position in the plan or at its end. Assumes nothing.
-use mathlib.Core.Path.{_≡_, subst}
+use mathlib.Core.Path.{_≡_, refl, subst}
 use mathlib.Core.List.{List, [], _∷_}
 use mathlib.Core.Bool.{Bool, true, false, _&&_, _||_, not}
-use Prim.Native.Nat.{ℕ, zero, suc, _+_, _≤_}
+use Prim.Native.Nat.{ℕ, zero, suc, _+_, _≤_, _<_}
 use native.Mathlib.Omega.{arith}
 use lib.Dec.{ltb, leb, eqb}
 use lib.ListN.{length, take, drop}
@@ -18,57 +18,59 @@ use Rattle.reader.specs.Answer.{Answer, ok, refused, _>>=_, require}
 use Rattle.reader.specs.Read.{kindOf, tagOf, expect, until, digits, number, intText, quotedText, boolText, floatText, referenceText, Setting, setting, position, isArray, keyText, Inner, readKey, readPairs, readBranch, readBody, readValue, read}
 
 module _ (size : ℕ) where
-  -- a refusal of these
-  pub record InTable (code at : ℕ) : Type 0 where
+  -- a row of the table of refusals: 1 at 0; 2 up to the plan's end; 3 to 10 at a byte of the plan
+  pub record RefusalRow (code at : ℕ) : Type 0 where
     pub least : 1 ≤ code
     pub most : code ≤ 10
+    pub start : code ≡ 1 → at ≡ 0
     pub inside : at ≤ size
+    pub byte : 2 < code → at < size
 
   abbrev pub Proper : {A : Type 0} → Answer A → Type 0
   Proper (ok a) = Unit {0}
-  Proper (refused n p) = InTable n p
+  Proper (refused n p) = RefusalRow n p
 
   bind : {A B : Type 0} (a : Answer A) (f : A → Answer B) → Proper a → ((x : A) → Proper (f x)) → Proper (a >>= f)
   bind (ok x) f h g = g x
   bind (refused n p) f h g = h
 
-  ask : {B : Type 0} (t : Bool) (n p : ℕ) (f : Unit {0} → Answer B) → 1 ≤ n → n ≤ 10 → p ≤ size → ((x : Unit {0}) → Proper (f x)) → Proper (require t n p >>= f)
-  ask true n p f a b c g = g tt
-  ask false n p f a b c g = record { least = a; most = b; inside = c }
+  ask : {B : Type 0} (t : Bool) (n p : ℕ) (f : Unit {0} → Answer B) → RefusalRow n p → ((x : Unit {0}) → Proper (f x)) → Proper (require t n p >>= f)
+  ask true n p f r g = g tt
+  ask false n p f r g = r
 
-  module _ (l : ℕ) (h : l ≤ size) where
-    two : InTable 2 l
-    two = record { least = omega arith; most = omega arith; inside = h }
+  two : (p : ℕ) → p ≤ size → RefusalRow 2 p
+  two p h = record { least = omega arith; most = omega arith; start = λ e. omega arith; inside = h; byte = λ e. omega arith }
+
+  -- behind or at a tag at `l`
+  module _ (l : ℕ) (h : l < size) where
+    row : (n : ℕ) → 2 ≤ n → n ≤ 10 → RefusalRow n l
+    row n a b = record { least = omega arith; most = b; start = λ e. omega arith; inside = omega arith; byte = λ e. h }
 
     expected : (ws s : List ℕ) → Proper (expect l ws s)
     expected [] s = tt
-    expected (w ∷ ws) [] = two
+    expected (w ∷ ws) [] = two l (omega arith)
     expected (w ∷ ws) (b ∷ s) = go (test (eqb w b)) (expected ws s)
       where
         go : Test (eqb w b) → Proper (expect l ws s) → Proper (expect l (w ∷ ws) (b ∷ s))
         go (passed t) r = rw (t, expect) r
-        go (failed t) r = rw (t, expect) two
+        go (failed t) r = rw (t, expect) (two l (omega arith))
 
     next : {B : Type 0} (ws s : List ℕ) (f : List ℕ → Answer B) → ((x : List ℕ) → Proper (f x)) → Proper (expect l ws s >>= f)
     next ws s f g = bind (expect l ws s) f (expected ws s) g
 
-    tagged : (ks : List Kind) (n : ℕ) (s : List ℕ) → 1 ≤ n → n ≤ 10 → Proper (tagOf ks n l s)
-    tagged ks n [] a b = two
-    tagged ks n (x ∷ s) a b = bind (kindOf ks n l x) _ (among ks) (λ k. tt)
+    tagged : (ks : List Kind) (n b : ℕ) → 2 ≤ n → n ≤ 10 → Proper (kindOf ks n l b)
+    tagged [] n b lo hi = row n lo hi
+    tagged (j ∷ js) n b lo hi = go (test (eqb (tag j) b)) (tagged js n b lo hi)
       where
-        among : (js : List Kind) → Proper (kindOf js n l x)
-        among [] = record { least = a; most = b; inside = h }
-        among (j ∷ js) = go (test (eqb (tag j) x)) (among js)
-          where
-            go : Test (eqb (tag j) x) → Proper (kindOf js n l x) → Proper (kindOf (j ∷ js) n l x)
-            go (passed t) r = rw (t, kindOf) tt
-            go (failed t) r = rw (t, kindOf) r
+        go : Test (eqb (tag j) b) → Proper (kindOf js n l b) → Proper (kindOf (j ∷ js) n l b)
+        go (passed t) r = rw (t, kindOf) tt
+        go (failed t) r = rw (t, kindOf) r
 
     digits-proper : (top : ℕ) (s : List ℕ) → Proper (digits l top s)
     unfolding digits
     digits-proper top s =
-        ask (ltb 0 (length (digitsOf s))) 2 l _ (omega arith) (omega arith) h (λ a.
-        ask (leb (value (digitsOf s)) top) 5 l _ (omega arith) (omega arith) h (λ b. tt))
+        ask (ltb 0 (length (digitsOf s))) 2 l _ (row 2 (omega arith) (omega arith)) (λ a.
+        ask (leb (value (digitsOf s)) top) 5 l _ (row 5 (omega arith) (omega arith)) (λ b. tt))
 
     number-proper : (s : List ℕ) → Proper (number l s)
     unfolding number
@@ -87,21 +89,21 @@ module _ (size : ℕ) where
         next (bytes ":") s _ (λ a.
         bind (number l a) _ (number-proper a) (λ b.
         next (bytes ":\"") (b .1) _ (λ c.
-        ask (leb (b .0 .1) (length c)) 2 l _ (omega arith) (omega arith) h (λ d.
+        ask (leb (b .0 .1) (length c)) 2 l _ (row 2 (omega arith) (omega arith)) (λ d.
         next close (drop (b .0 .1) c) _ (λ e. tt)))))
 
     bool-proper : (s : List ℕ) → Proper (boolText l s)
     unfolding boolText
     bool-proper s =
         next (bytes ":") s _ (λ a.
-        ask (sameBytes (take 1 a) (bytes "0") || sameBytes (take 1 a) (bytes "1")) 2 l _ (omega arith) (omega arith) h (λ b.
+        ask (sameBytes (take 1 a) (bytes "0") || sameBytes (take 1 a) (bytes "1")) 2 l _ (row 2 (omega arith) (omega arith)) (λ b.
         next (bytes ";") (drop 1 a) _ (λ c. tt)))
 
     float-proper : (s : List ℕ) → Proper (floatText l s)
     unfolding floatText
     float-proper s =
         next (bytes ":") s _ (λ a.
-        ask (isFloat (until (byte ";") a)) 2 l _ (omega arith) (omega arith) h (λ b.
+        ask (isFloat (until (byte ";") a)) 2 l _ (row 2 (omega arith) (omega arith)) (λ b.
         bind (expect l (bytes ";") (drop (length (until (byte ";") a)) a)) _ (expected (bytes ";") (drop (length (until (byte ";") a)) a)) (λ c. tt)))
 
     reference-proper : (k : RefKind) (seen : Seen) (s : List ℕ) → Proper (referenceText k l seen s)
@@ -110,86 +112,98 @@ module _ (size : ℕ) where
         next (bytes ":") s _ (λ a.
         bind (number l a) _ (number-proper a) (λ b.
         next (bytes ";") (b .1) _ (λ c.
-        ask (ltb 0 (b .0 .1) && leb (b .0 .1) seen) 6 l _ (omega arith) (omega arith) h (λ d. tt))))
-
-    four : InTable 4 l
-    four = record { least = omega arith; most = omega arith; inside = h }
+        ask (ltb 0 (b .0 .1) && leb (b .0 .1) seen) 6 l _ (row 6 (omega arith) (omega arith)) (λ d. tt))))
 
     key-proper : (k : Kind) (s : List ℕ) → Proper (keyText k l s)
     unfolding keyText
     key-proper Kind.int s = bind (intText l s) _ (int-proper s) (λ a. tt)
     key-proper Kind.string s = bind (quotedText l (bytes "\";") s) _ (quoted-proper (bytes "\";") s) (λ a. tt)
-    key-proper Kind.null s = four
-    key-proper Kind.bool s = four
-    key-proper Kind.float s = four
-    key-proper Kind.array s = four
-    key-proper Kind.object s = four
-    key-proper Kind.objectReference s = four
-    key-proper Kind.variableReference s = four
+    key-proper Kind.null s = row 4 (omega arith) (omega arith)
+    key-proper Kind.bool s = row 4 (omega arith) (omega arith)
+    key-proper Kind.float s = row 4 (omega arith) (omega arith)
+    key-proper Kind.array s = row 4 (omega arith) (omega arith)
+    key-proper Kind.object s = row 4 (omega arith) (omega arith)
+    key-proper Kind.objectReference s = row 4 (omega arith) (omega arith)
+    key-proper Kind.variableReference s = row 4 (omega arith) (omega arith)
 
 -- ---- values and pairs
 module _ (set : Setting) where
   abbrev Ok : {A : Type 0} → Answer A → Type 0
   Ok a = Proper (set .size) a
 
-  inside : (s : List ℕ) → position set s ≤ set .size
-  inside s = omega arith
+  -- some bytes are left, so their first is a byte of the plan
+  module _ (some : 0 < set .size) where
+    here : (b : ℕ) (s : List ℕ) → position set (b ∷ s) < set .size
+    here b s = omega arith
 
-  readKey-proper : (c : Container) (earlier : List Key) (before : ℕ) (s : List ℕ) → Ok (readKey set c earlier before s)
-  unfolding readKey
-  readKey-proper c earlier before s =
-      let l : ℕ = position set s in
-      bind (set .size) (tagOf (keyKinds (isArray c)) 4 l s) _ (tagged (set .size) l (inside s) (keyKinds (isArray c)) 4 s (omega arith) (omega arith)) (λ k.
-      ask (set .size) (ltb before (set .capacity)) 7 l _ (omega arith) (omega arith) (inside s) (λ u.
-      bind (set .size) (keyText (k .0) l (k .1)) _ (key-proper (set .size) l (inside s) (k .0) (k .1)) (λ x.
-      ask (set .size) (not (hasKey (x .0) earlier)) 9 l _ (omega arith) (omega arith) (inside s) (λ w. tt))))
+    readKey-proper : (c : Container) (earlier : List Key) (before : ℕ) (s : List ℕ) → Ok (readKey set c earlier before s)
+    unfolding readKey
+    readKey-proper c earlier before [] = two (set .size) (position set []) (omega arith)
+    readKey-proper c earlier before (b ∷ s) =
+        let l : ℕ = position set (b ∷ s) in
+        bind (set .size) (tagOf (keyKinds (isArray c)) 4 l (b ∷ s)) _ (bind (set .size) (kindOf (keyKinds (isArray c)) 4 l b) _ (tagged (set .size) l (here b s) (keyKinds (isArray c)) 4 b (omega arith) (omega arith)) (λ k. tt)) (λ k.
+        ask (set .size) (ltb before (set .capacity)) 7 l _ (row (set .size) l (here b s) 7 (omega arith) (omega arith)) (λ u.
+        bind (set .size) (keyText (k .0) l (k .1)) _ (key-proper (set .size) l (here b s) (k .0) (k .1)) (λ x.
+        ask (set .size) (not (hasKey (x .0) earlier)) 9 l _ (row (set .size) l (here b s) 9 (omega arith) (omega arith)) (λ w. tt))))
 
-  module _ (inner : Inner) (deeper : (seen : Seen) (before : ℕ) (s : List ℕ) → Ok (inner seen before s)) where
-    pairs-proper : (c : Container) (n : ℕ) (earlier : List Key) (seen : Seen) (before : ℕ) (s : List ℕ) → Ok (readPairs set inner c n earlier seen before s)
-    pairs-proper c zero earlier seen before s = tt
-    pairs-proper c (suc n) earlier seen before s =
-        bind (set .size) (readKey set c earlier before s) _ (readKey-proper c earlier before s) (λ k.
-        bind (set .size) (inner seen (suc before) (k .1)) _ (deeper seen (suc before) (k .1)) (λ v.
-        bind (set .size) (readPairs set inner c n (k .0 ∷ earlier) (see seen (v .0)) (suc (before + nodes (v .0))) (v .1)) _
-        (pairs-proper c n (k .0 ∷ earlier) (see seen (v .0)) (suc (before + nodes (v .0))) (v .1)) (λ ps. tt)))
+    module _ (inner : Inner) (deeper : (seen : Seen) (before : ℕ) (s : List ℕ) → Ok (inner seen before s)) where
+      pairs-proper : (c : Container) (n : ℕ) (earlier : List Key) (seen : Seen) (before : ℕ) (s : List ℕ) → Ok (readPairs set inner c n earlier seen before s)
+      pairs-proper c zero earlier seen before s = tt
+      pairs-proper c (suc n) earlier seen before s =
+          bind (set .size) (readKey set c earlier before s) _ (readKey-proper c earlier before s) (λ k.
+          bind (set .size) (inner seen (suc before) (k .1)) _ (deeper seen (suc before) (k .1)) (λ v.
+          bind (set .size) (readPairs set inner c n (k .0 ∷ earlier) (see seen (v .0)) (suc (before + nodes (v .0))) (v .1)) _
+          (pairs-proper c n (k .0 ∷ earlier) (see seen (v .0)) (suc (before + nodes (v .0))) (v .1)) (λ ps. tt)))
 
-    branch-proper : (c : Container) (l : ℕ) (h : l ≤ set .size) (seen : Seen) (before : ℕ) (s : List ℕ) → Ok (readBranch set inner c l seen before s)
-    unfolding readBranch
-    branch-proper c l h seen before s =
-        bind (set .size) (number l s) _ (number-proper (set .size) l h s) (λ n.
-        next (set .size) l h (bytes ":{") (n .1) _ (λ s₂.
-        bind (set .size) (readPairs set inner c (n .0 .1) [] (seeBranch seen) (suc before) s₂) _ (pairs-proper c (n .0 .1) [] (seeBranch seen) (suc before) s₂) (λ ps.
-        next (set .size) l h (bytes "}") (ps .1) _ (λ s₄. tt))))
+      branch-proper : (c : Container) (l : ℕ) (h : l < set .size) (seen : Seen) (before : ℕ) (s : List ℕ) → Ok (readBranch set inner c l seen before s)
+      unfolding readBranch
+      branch-proper c l h seen before s =
+          bind (set .size) (number l s) _ (number-proper (set .size) l h s) (λ n.
+          next (set .size) l h (bytes ":{") (n .1) _ (λ s₂.
+          bind (set .size) (readPairs set inner c (n .0 .1) [] (seeBranch seen) (suc before) s₂) _ (pairs-proper c (n .0 .1) [] (seeBranch seen) (suc before) s₂) (λ ps.
+          next (set .size) l h (bytes "}") (ps .1) _ (λ s₄. tt))))
 
-    body-proper : (k : Kind) (l : ℕ) (h : l ≤ set .size) (seen : Seen) (before : ℕ) (s : List ℕ) → Ok (readBody set inner k l seen before s)
-    unfolding readBody
-    body-proper Kind.null l h seen before s = next (set .size) l h (bytes ";") s _ (λ a. tt)
-    body-proper Kind.bool l h seen before s = bind (set .size) (boolText l s) _ (bool-proper (set .size) l h s) (λ a. tt)
-    body-proper Kind.int l h seen before s = bind (set .size) (intText l s) _ (int-proper (set .size) l h s) (λ a. tt)
-    body-proper Kind.float l h seen before s = bind (set .size) (floatText l s) _ (float-proper (set .size) l h s) (λ a. tt)
-    body-proper Kind.string l h seen before s = bind (set .size) (quotedText l (bytes "\";") s) _ (quoted-proper (set .size) l h (bytes "\";") s) (λ a. tt)
-    body-proper Kind.array l h seen before s = next (set .size) l h (bytes ":") s _ (λ a. branch-proper array l h seen before a)
-    body-proper Kind.object l h seen before s = bind (set .size) (quotedText l (bytes "\":") s) _ (quoted-proper (set .size) l h (bytes "\":") s) (λ a. branch-proper (object (a .0)) l h seen before (a .1))
-    body-proper Kind.objectReference l h seen before s = bind (set .size) (referenceText objectRef l seen s) _ (reference-proper (set .size) l h objectRef seen s) (λ a. tt)
-    body-proper Kind.variableReference l h seen before s = bind (set .size) (referenceText variableRef l seen s) _ (reference-proper (set .size) l h variableRef seen s) (λ a. tt)
+      body-proper : (k : Kind) (l : ℕ) (h : l < set .size) (seen : Seen) (before : ℕ) (s : List ℕ) → Ok (readBody set inner k l seen before s)
+      unfolding readBody
+      body-proper Kind.null l h seen before s = next (set .size) l h (bytes ";") s _ (λ a. tt)
+      body-proper Kind.bool l h seen before s = bind (set .size) (boolText l s) _ (bool-proper (set .size) l h s) (λ a. tt)
+      body-proper Kind.int l h seen before s = bind (set .size) (intText l s) _ (int-proper (set .size) l h s) (λ a. tt)
+      body-proper Kind.float l h seen before s = bind (set .size) (floatText l s) _ (float-proper (set .size) l h s) (λ a. tt)
+      body-proper Kind.string l h seen before s = bind (set .size) (quotedText l (bytes "\";") s) _ (quoted-proper (set .size) l h (bytes "\";") s) (λ a. tt)
+      body-proper Kind.array l h seen before s = next (set .size) l h (bytes ":") s _ (λ a. branch-proper array l h seen before a)
+      body-proper Kind.object l h seen before s = bind (set .size) (quotedText l (bytes "\":") s) _ (quoted-proper (set .size) l h (bytes "\":") s) (λ a. branch-proper (object (a .0)) l h seen before (a .1))
+      body-proper Kind.objectReference l h seen before s = bind (set .size) (referenceText objectRef l seen s) _ (reference-proper (set .size) l h objectRef seen s) (λ a. tt)
+      body-proper Kind.variableReference l h seen before s = bind (set .size) (referenceText variableRef l seen s) _ (reference-proper (set .size) l h variableRef seen s) (λ a. tt)
 
-  value-proper : (d : ℕ) (seen : Seen) (before : ℕ) (s : List ℕ) → Ok (readValue set d seen before s)
-  value-proper zero seen before s =
-      bind (set .size) (tagOf kinds 3 (position set s) s) _ (tagged (set .size) (position set s) (inside s) kinds 3 s (omega arith) (omega arith))
-      (λ k. record { least = omega arith; most = omega arith; inside = inside s })
-  value-proper (suc d) seen before s =
-      bind (set .size) (tagOf kinds 3 (position set s) s) _ (tagged (set .size) (position set s) (inside s) kinds 3 s (omega arith) (omega arith)) (λ k.
-      ask (set .size) (ltb before (set .capacity)) 7 (position set s) _ (omega arith) (omega arith) (inside s) (λ u.
-      body-proper (readValue set d) (λ a b c. value-proper d a b c) (k .0) (position set s) (inside s) seen before (k .1)))
+    value-proper : (d : ℕ) (seen : Seen) (before : ℕ) (s : List ℕ) → Ok (readValue set d seen before s)
+    value-proper zero seen before [] = two (set .size) (position set []) (omega arith)
+    value-proper (suc d) seen before [] = two (set .size) (position set []) (omega arith)
+    value-proper zero seen before (b ∷ s) =
+        let l : ℕ = position set (b ∷ s) in
+        bind (set .size) (tagOf kinds 3 l (b ∷ s)) _ (bind (set .size) (kindOf kinds 3 l b) _ (tagged (set .size) l (here b s) kinds 3 b (omega arith) (omega arith)) (λ k. tt)) (λ k. row (set .size) l (here b s) 8 (omega arith) (omega arith))
+    value-proper (suc d) seen before (b ∷ s) =
+        let l : ℕ = position set (b ∷ s) in
+        bind (set .size) (tagOf kinds 3 l (b ∷ s)) _ (bind (set .size) (kindOf kinds 3 l b) _ (tagged (set .size) l (here b s) kinds 3 b (omega arith) (omega arith)) (λ k. tt)) (λ k.
+        ask (set .size) (ltb before (set .capacity)) 7 l _ (row (set .size) l (here b s) 7 (omega arith) (omega arith)) (λ u.
+        body-proper (readValue set d) (λ x y z. value-proper d x y z) (k .0) l (here b s) seen before (k .1)))
+
+-- the first byte behind the plan
+behind : {B : Type 0} (set : Setting) (s : List ℕ) (f : Unit {0} → Answer B) → 0 < set .size → ((x : Unit {0}) → Proper (set .size) (f x)) → Proper (set .size) (require (isEmpty s) 10 (position set s) >>= f)
+behind set [] f h g = g tt
+behind set (b ∷ s) f h g = row (set .size) (position set (b ∷ s)) (omega arith) 10 (omega arith) (omega arith)
+
+one : (size : ℕ) → RefusalRow size 1 0
+one size = record { least = omega arith; most = omega arith; start = λ e. refl; inside = omega arith; byte = λ e. omega arith }
 
 read-proper : (capacity : ℕ) (source : List ℕ) → Proper (length source) (read capacity source)
 unfolding read
-read-proper capacity source =
-    let size : ℕ = length source in
-    ask size (leb size sourceLimit) 1 0 _ (omega arith) (omega arith) (omega arith) (λ u.
-    bind size (readValue (setting capacity source) depthLimit unseen 0 source) _ (value-proper (setting capacity source) depthLimit unseen 0 source) (λ v.
-    ask size (isEmpty (v .1)) 10 (position (setting capacity source) (v .1)) _ (omega arith) (omega arith) (omega arith) (λ w. tt)))
+read-proper capacity [] = two 0 0 (omega arith)
+read-proper capacity (b ∷ s) =
+    let set : Setting = setting capacity (b ∷ s) in
+    ask (set .size) (leb (set .size) sourceLimit) 1 0 _ (one (set .size)) (λ u.
+    bind (set .size) (readValue set depthLimit unseen 0 (b ∷ s)) _ (value-proper set (omega arith) depthLimit unseen 0 (b ∷ s)) (λ v.
+    behind set (v .1) _ (omega arith) (λ w. tt)))
 
--- "A refusal returns its number and a position": of reading, 1 to 10, in the plan or at its end
-pub refusal-proper : (capacity : ℕ) (source : List ℕ) (n p : ℕ) → read capacity source ≡ refused n p → InTable (length source) n p
+-- "A refusal returns its number and a position": of reading, 1 to 10, and where the table's last column may point
+pub refusal-proper : (capacity : ℕ) (source : List ℕ) (n p : ℕ) → read capacity source ≡ refused n p → RefusalRow (length source) n p
 refusal-proper capacity source n p e = subst (Proper (length source)) e (read-proper capacity source)

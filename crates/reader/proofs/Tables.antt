@@ -2,7 +2,7 @@
 use mathlib.Core.Path.{_≡_, refl, sym, ap, ap₂, _∙_, subst}
 use mathlib.Core.List.{List, [], _∷_, _++_, map, map-append, append-nil}
 use mathlib.Core.Bool.{Bool, true, false}
-use Prim.Native.Nat.{ℕ, suc, _+_, _-_, _≤_}
+use Prim.Native.Nat.{ℕ, suc, _+_, _-_, _≤_, _<_}
 use native.Mathlib.Omega.{arith}
 use lib.ListN.{length, getD, take, drop, List·getD-map}
 use Rattle.reader.specs.Kind.{Kind, tag}
@@ -105,6 +105,12 @@ module _ (rows : List Node) (to : ℕ → ℕ) where
   numbered : (i : ℕ) (x : Node) → nodeAt rows i ≡ x → 1 ≤ x .ordinal → Numbered rows i
   numbered i x e h = let o = ordinal-is i x e in omega arith
 
+  -- what a reference needs, where `env` gives the paths of the ordinals
+  record Resolved (env : List TreePath) (r : Reference) : Type 0 where
+    leads : to (r .ordinal) ≡ follow rows 0 (getD env (r .ordinal - 1) [])
+    carries : ordinalAt (to (r .ordinal)) ≡ r .ordinal
+    least : 1 ≤ r .ordinal
+
 module _ (source : List ℕ) (rows : List Node) (to : ℕ → ℕ) where
   -- a text at the offset that the node has
   text-shown : (i : ℕ) (x : Node) (t : List ℕ) → nodeAt rows i ≡ x → take (length t) (drop (x .content) source) ≡ t → Text source rows i t
@@ -126,18 +132,13 @@ module _ (source : List ℕ) (rows : List Node) (to : ℕ → ℕ) where
   head-shown array o i n pairs e r p h s = (row-is rows to i Kind.array _ p refl, numbered rows to i _ p h, content-is rows to i _ p)
   head-shown (object q) o i n pairs e r p h s = (row-is rows to i Kind.object _ p refl, numbered rows to i _ p h, text-shown i _ (q .text) p (quoted-text source o 79 q (58 ∷ r) s))
 
-  -- what the references need: where `env` gives the paths of the ordinals
+  -- where `env` gives the paths of the ordinals
   module _ (env : List TreePath) where
-    pub record Resolved (r : Reference) : Type 0 where
-      pub leads : to (r .ordinal) ≡ follow rows 0 (getD env (r .ordinal - 1) [])
-      pub carries : ordinalAt rows to (to (r .ordinal)) ≡ r .ordinal
-      pub least : 1 ≤ r .ordinal
-
     taking : (k : RefKind) (i n : ℕ) → 1 ≤ n → ordinalAt rows to i ≡ taken (own (record { kind = k; spelling = record { zeros = 0 }; ordinal = 0 })) n → Taking rows k i
     taking objectRef i n h e = omega arith
     taking variableRef i n h e = e
 
-    reference-shown : (r : Reference) (i n : ℕ) → nodeAt rows i ≡ refNode (to (r .ordinal)) i n r → 1 ≤ n → Resolved r → ShowsReference rows i (referenceMeaning env r)
+    reference-shown : (r : Reference) (i n : ℕ) → nodeAt rows i ≡ refNode (to (r .ordinal)) i n r → 1 ≤ n → Resolved rows to env r → ShowsReference rows i (referenceMeaning env r)
     reference-shown r i n e h g =
         let row = row-is rows to i (refKind (r .kind)) (refNode (to (r .ordinal)) i n r) e refl in
         let content : nodeAt rows i .content ≡ r .ordinal = content-is rows to i _ e in
@@ -151,7 +152,7 @@ module _ (source : List ℕ) (rows : List Node) (to : ℕ → ℕ) where
     mutual
       unfolding write
 
-      shows : (v : Value) (o i n : ℕ) (r : List ℕ) → InTable rows to o i n v → 1 ≤ n → drop o source ≡ write v r → Refs Resolved v
+      shows : (v : Value) (o i n : ℕ) (r : List ℕ) → InTable rows to o i n v → 1 ≤ n → drop o source ≡ write v r → Refs (Resolved rows to env) v
           → Shows source rows i (mapTree keyMeaning scalarMeaning headMeaning (referenceMeaning env) v)
       shows (leaf x) o i n r t h s g = scalar-shown x o i n r (node-is rows to (leaf x) o i n t) h s
       shows (ref f) o i n r t h s g = reference-shown f i n (node-is rows to (ref f) o i n t) h g
@@ -163,7 +164,7 @@ module _ (source : List ℕ) (rows : List Node) (to : ℕ → ℕ) where
       )
 
       -- the index is what the node before says
-      showsIn : (ps : Values) (o i j n : ℕ) (r : List ℕ) → PairsInTable rows to o i n ps → 1 ≤ n → drop o source ≡ writePairs ps r → RefsIn Resolved ps → j ≡ i
+      showsIn : (ps : Values) (o i j n : ℕ) (r : List ℕ) → PairsInTable rows to o i n ps → 1 ≤ n → drop o source ≡ writePairs ps r → RefsIn (Resolved rows to env) ps → j ≡ i
           → ShowsIn source rows j (mapPairs keyMeaning scalarMeaning headMeaning (referenceMeaning env) ps)
       showsIn none o i j n r t h s g e = tt
       showsIn (pair k v ps) o i j n r t h s g e =
@@ -176,31 +177,35 @@ module _ (source : List ℕ) (rows : List Node) (to : ℕ → ℕ) where
           )
 
 -- ---- the whole table
-module _ (v : Value) (f : Valid v) where
-  abbrev source : List ℕ
-  source = print v
-
+module _ (v : Value) where
   abbrev rows : List Node
   rows = table (targetOf v) 0 0 1 v
 
   whole : InTable rows (targetOf v) 0 0 1 v
   whole = record { rest = []; here = sym (append-nil rows) }
 
-  -- an ordinal that is taken resolves to the node at its path, which carries it
-  resolved : (r : Reference) → Taken (ordinals own v) r → Resolved source rows (targetOf v) (paths own v) r
-  resolved r t =
-      let k : ℕ = r .ordinal - 1 in
-      record {
-        leads = ap (λ (is : List ℕ). getD is k 0) (sym (paths-lead rows (targetOf v) v 0 0 1 whole)) ∙ List·getD-map (follow rows 0) (paths own v) k [];
-        carries = sym (List·getD-map (ordinalAt rows (targetOf v)) (indices 0 v) k 0) ∙ ap (λ (ns : List ℕ). getD ns k (ordinalAt rows (targetOf v) 0)) (indices-carry rows (targetOf v) v 0 0 1 whole)
-            ∙ up-at 1 (ordinals own v) k (ordinalAt rows (targetOf v) 0) (omega arith) ∙ omega arith;
-        least = t .0;
-      }
+  -- the index of an ordinal's node, by the ordinal's path; and that node carries it
+  leads : (k : ℕ) → getD (indices 0 v) k 0 ≡ follow rows 0 (getD (paths own v) k [])
+  leads k = ap (λ (is : List ℕ). getD is k 0) (sym (paths-lead rows (targetOf v) v 0 0 1 whole)) ∙ List·getD-map (follow rows 0) (paths own v) k []
 
-  all-resolved : Refs (Resolved source rows (targetOf v) (paths own v)) v
-  all-resolved = refs-map (Taken (ordinals own v)) (Resolved source rows (targetOf v) (paths own v)) resolved v (refs-taken (ordinals own v) v 0 (f .backward) (omega arith))
+  carries : (k : ℕ) → k < ordinals own v → ordinalAt rows (targetOf v) (getD (indices 0 v) k 0) ≡ suc k
+  carries k h =
+      sym (List·getD-map (ordinalAt rows (targetOf v)) (indices 0 v) k 0)
+      ∙ ap (λ (ns : List ℕ). getD ns k (ordinalAt rows (targetOf v) 0)) (indices-carry rows (targetOf v) v 0 0 1 whole)
+      ∙ up-at 1 (ordinals own v) k (ordinalAt rows (targetOf v) 0) h ∙ omega arith
+
+  resolved : (r : Reference) → Taken (ordinals own v) r → Resolved rows (targetOf v) (paths own v) r
+  resolved r t = record { leads = leads (r .ordinal - 1); carries = carries (r .ordinal - 1) (omega arith) ∙ omega arith; least = t .0 }
+
+  all-resolved : Valid v → Refs (Resolved rows (targetOf v) (paths own v)) v
+  all-resolved f = refs-map (Taken (ordinals own v)) (Resolved rows (targetOf v) (paths own v)) resolved v (refs-taken (ordinals own v) v 0 (f .backward) (omega arith))
 
 -- Demand 2: "The table then holds its one meaning, each reference resolved."
 pub table-says : (v : Value) → Valid v → Shows (print v) (tableOf v) 0 (meaning v)
 unfolding tableOf meaning
-table-says v f = shows (print v) (tableOf v) (targetOf v) (paths own v) v 0 0 1 [] (whole v f) (omega arith) refl (all-resolved v f)
+table-says v f = shows (print v) (tableOf v) (targetOf v) (paths own v) v 0 0 1 [] (whole v) (omega arith) refl (all-resolved v f)
+
+-- the number of the value at a path, in word 1 of its node: the path's place, from 1, among the paths of the values that take one
+pub path-ordinal : (v : Value) (k : ℕ) → k < ordinals own v → nodeAt (tableOf v) (follow (tableOf v) 0 (getD (paths own v) k [])) .ordinal ≡ suc k
+unfolding tableOf
+path-ordinal v k h = ap (λ (i : ℕ). nodeAt (rows v) i .ordinal) (sym (leads v k)) ∙ carries v k h
