@@ -11,7 +11,7 @@ pub mod Refusals
 pub mod Maps
 pub mod Fronts
 pub mod Rows
-pub mod Numbers
+pub mod Ordinals
 pub mod Places
 pub mod NormalForm
 pub mod OneText

@@ -2,12 +2,12 @@
 use mathlib.Core.Path.{_≡_, refl, sym, ap, ap₂, _∙_}
 use mathlib.Core.List.{List, [], _∷_, _++_, map, map-append}
 use Prim.Native.Nat.{ℕ, suc, _+_, _-_}
-use lib.ListN.{length, getD}
+use lib.ListN.{getD}
 use Rattle.reader.specs.Kind.{Kind}
 use Rattle.reader.specs.Tree.{leaf, ref, branch, none, pair, count, nodes, nodesIn, ordinals}
-use Rattle.reader.specs.Syntax.{intKey, stringKey, null, bool, int, float, string, array, object, mapContainer, Key, Scalar, Container, Value, Values, own, write, writeKey, writeNumber, writeContainer}
+use Rattle.reader.specs.Syntax.{intKey, stringKey, null, bool, int, float, string, array, object, mapContainer, Key, Scalar, Container, Value, Values, own}
 use Rattle.reader.specs.Keys.{Integer}
-use Rattle.reader.specs.Table.{Node, word, single, keyNode, scalarNode, branchNode, table, tableIn, indices, indicesIn, targetOf, tableOf, withoutOffset}
+use Rattle.reader.specs.Table.{Node, word, single, keyNode, scalarNode, branchNode, table, tableIn, indices, indicesIn, targetOf, tableOf, withoutOffset, pairsOffset, valueOffset, nextOffset}
 use Rattle.reader.specs.Canonical.{shortestQuoted, canonicalKey, canonicalScalar, canonicalHead, canonicalReference, canonical}
 use Rattle.reader.proofs.Maps.{nodesIn-map}
 use Rattle.reader.proofs.NormalForm.{int-same, canonicalPairs, count-canonical, ordinals-canonical, nodes-canonical}
@@ -40,19 +40,19 @@ module _ (to : ℕ → ℕ) where
     table-canonical (branch h ps) o o′ i n = ap₂ {C = List Node} _∷_
         (ap₂ (λ (p m : ℕ). withoutOffset (branchNode o′ n (mapContainer shortestQuoted (h .container)) p (i + suc m))) (count-canonical ps) (nodesIn-map canonicalKey canonicalScalar canonicalHead canonicalReference ps)
         ∙ branch-node o o′ n (h .container) (count ps) (i + suc (nodesIn ps)))
-        (tableIn-canonical ps (o + length (writeContainer (h .container) (writeNumber (h .spelling) (count ps) [])) + 2) _ (suc i) (suc n))
+        (tableIn-canonical ps (pairsOffset o h (count ps)) _ (suc i) (suc n))
 
     tableIn-canonical : (ps : Values) (o o′ i n : ℕ) → map withoutOffset (tableIn to o′ i n (canonicalPairs ps)) ≡ map withoutOffset (tableIn to o i n ps)
     tableIn-canonical none o o′ i n = refl
     tableIn-canonical (pair k v ps) o o′ i n =
-        let vs : List Node = table to (o + length (writeKey k [])) (suc i) n v in
-        let rest : List Node = tableIn to (o + length (writeKey k (write v []))) (suc (i + nodes v)) (n + ordinals own v) ps in
-        let next : ℕ = o′ + length (writeKey (canonicalKey k) (write (canonical v) [])) in
+        let vs : List Node = table to (valueOffset o k) (suc i) n v in
+        let rest : List Node = tableIn to (nextOffset o k v) (suc (i + nodes v)) (n + ordinals own v) ps in
+        let next : ℕ = nextOffset o′ (canonicalKey k) (canonical v) in
         ap₂ {C = List Node} _∷_ (key-node o o′ i k)
         (map-append withoutOffset (table to _ (suc i) n (canonical v)) (tableIn to next (suc (i + nodes (canonical v))) (n + ordinals own (canonical v)) (canonicalPairs ps))
-        ∙ ap₂ _++_ (table-canonical v (o + length (writeKey k [])) _ (suc i) n)
+        ∙ ap₂ _++_ (table-canonical v (valueOffset o k) _ (suc i) n)
         (ap₂ (λ (a b : ℕ). map withoutOffset (tableIn to next (suc (i + a)) (n + b) (canonicalPairs ps))) (nodes-canonical v) (ordinals-canonical v)
-        ∙ tableIn-canonical ps (o + length (writeKey k (write v []))) next (suc (i + nodes v)) (n + ordinals own v))
+        ∙ tableIn-canonical ps (nextOffset o k v) next (suc (i + nodes v)) (n + ordinals own v))
         ∙ sym (map-append withoutOffset vs rest))
 
 mutual

@@ -9,11 +9,11 @@ use Rattle.reader.specs.Syntax.{Value, own}
 use Rattle.reader.specs.Answer.{Answer, ok, refused}
 use Rattle.reader.specs.Read.{read}
 use Rattle.reader.specs.Table.{Node, width, flat, targetOf, tableOf}
-use Rattle.reader.specs.Shows.{numbersOf, upFrom}
+use Rattle.reader.specs.Shows.{ordinalsOf, upFrom}
 use Rattle.reader.specs.Reading.{capacityOf, answer, over, filled, tableAfter}
 use Rattle.reader.proofs.Inversion.{read-ok}
 use Rattle.reader.proofs.Rows.{table-length}
-use Rattle.reader.proofs.Numbers.{numbers-in-order}
+use Rattle.reader.proofs.Ordinals.{ordinals-in-order}
 
 pub tableOf-length : (v : Value) → length (tableOf v) ≡ nodes v
 unfolding tableOf
@@ -43,10 +43,10 @@ up-length n (suc c) = ap suc (up-length (suc n) c)
 
 -- "Reading returns the count of nodes and of numbers taken."
 pub answer-counts : (capacity : ℕ) (source : List ℕ) (v : Value) → read capacity source ≡ ok v
-    → answer capacity source ≡ ok (record { nodes = length (tableOf v); ordinals = length (numbersOf (tableOf v)) })
+    → answer capacity source ≡ ok (record { nodes = length (tableOf v); ordinals = length (ordinalsOf (tableOf v)) })
 unfolding answer
 answer-counts capacity source v e =
-    rw e (ap₂ (λ (a b : ℕ). ok (record { nodes = a; ordinals = b })) (sym (tableOf-length v)) (sym (ap length (numbers-in-order v) ∙ up-length 1 (ordinals own v))))
+    rw e (ap₂ (λ (a b : ℕ). ok (record { nodes = a; ordinals = b })) (sym (tableOf-length v)) (sym (ap length (ordinals-in-order v) ∙ up-length 1 (ordinals own v))))
 
 -- ---- the table keeps its length
 over-length : (ws t : List ℕ) → length ws ≤ length t → length (over ws t) ≡ length t

@@ -7,7 +7,7 @@ use lib.ListN.{length, take, drop}
 use lib.Seq.{take-append-seam}
 use Rattle.reader.specs.Tree.{branch, pair, count, nodes, nodesIn, ordinals}
 use Rattle.reader.specs.Syntax.{Container, Spelling, Quoted, Key, Head, Value, Values, own, writeNumber, writeQuoted, writeKey, writeContainer, write}
-use Rattle.reader.specs.Table.{Node, textOffset, keyNode, branchNode, table, tableIn}
+use Rattle.reader.specs.Table.{Node, textOffset, keyNode, branchNode, table, tableIn, pairsOffset, valueOffset, nextOffset}
 use Rattle.reader.proofs.Fronts.{number-front, key-front, container-front, write-front}
 use Rattle.reader.proofs.Rows.{at-after, at-next, table-length}
 
@@ -23,26 +23,26 @@ module _ (rows : List Node) (to : ℕ → ℕ) where
     pub here : drop i rows ≡ tableIn to o i n ps ++ rest
 
   pub contents-in : (o i n : ℕ) (h : Head) (ps : Values) → InTable o i n (branch h ps)
-      → PairsInTable (o + length (writeContainer (h .container) (writeNumber (h .spelling) (count ps) [])) + 2) (suc i) (suc n) ps
+      → PairsInTable (pairsOffset o h (count ps)) (suc i) (suc n) ps
   contents-in o i n h ps t = record { rest = t .rest; here = at-next rows i (branchNode o n (h .container) (count ps) (i + suc (nodesIn ps))) _ (t .here) }
 
   module _ (o i n : ℕ) (k : Key) (v : Value) (ps : Values) (t : PairsInTable o i n (pair k v ps)) where
     abbrev values : List Node
-    values = table to (o + length (writeKey k [])) (suc i) n v
+    values = table to (valueOffset o k) (suc i) n v
 
     abbrev others : List Node
-    others = tableIn to (o + length (writeKey k (write v []))) (suc (i + nodes v)) (n + ordinals own v) ps
+    others = tableIn to (nextOffset o k v) (suc (i + nodes v)) (n + ordinals own v) ps
 
     values-here : drop (suc i) rows ≡ values ++ (others ++ t .rest)
     values-here = at-next rows i (keyNode o i k) ((values ++ others) ++ t .rest) (t .here) ∙ append-assoc values others (t .rest)
 
-    pub first-in : InTable (o + length (writeKey k [])) (suc i) n v
+    pub first-in : InTable (valueOffset o k) (suc i) n v
     first-in = record { rest = others ++ t .rest; here = values-here }
 
-    pub others-in : PairsInTable (o + length (writeKey k (write v []))) (suc (i + nodes v)) (n + ordinals own v) ps
+    pub others-in : PairsInTable (nextOffset o k v) (suc (i + nodes v)) (n + ordinals own v) ps
     others-in =
         let e : suc (i + nodes v) ≡ suc i + nodes v = omega arith in
-        record { rest = t .rest; here = ap (λ (j : ℕ). drop j rows) e ∙ at-after rows (suc i) values (others ++ t .rest) (nodes v) values-here (table-length to v (o + length (writeKey k [])) (suc i) n) }
+        record { rest = t .rest; here = ap (λ (j : ℕ). drop j rows) e ∙ at-after rows (suc i) values (others ++ t .rest) (nodes v) values-here (table-length to v (valueOffset o k) (suc i) n) }
 
 -- ---- bytes
 module _ (source : List ℕ) where
@@ -53,10 +53,10 @@ module _ (source : List ℕ) where
       at-after source (o + length xs) (58 ∷ 123 ∷ []) r 2
       (at-after source o xs (58 ∷ 123 ∷ r) (length xs) (e ∙ ap (writeContainer c) (number-front w n [] (58 ∷ 123 ∷ r)) ∙ container-front c (writeNumber w n []) (58 ∷ 123 ∷ r)) refl) refl
 
-  pub value-text : (o : ℕ) (k : Key) (r : List ℕ) → drop o source ≡ writeKey k r → drop (o + length (writeKey k [])) source ≡ r
+  pub value-text : (o : ℕ) (k : Key) (r : List ℕ) → drop o source ≡ writeKey k r → drop (valueOffset o k) source ≡ r
   value-text o k r e = at-after source o (writeKey k []) r (length (writeKey k [])) (e ∙ key-front k [] r) refl
 
-  pub others-text : (o : ℕ) (k : Key) (v : Value) (r : List ℕ) → drop o source ≡ writeKey k (write v r) → drop (o + length (writeKey k (write v []))) source ≡ r
+  pub others-text : (o : ℕ) (k : Key) (v : Value) (r : List ℕ) → drop o source ≡ writeKey k (write v r) → drop (nextOffset o k v) source ≡ r
   others-text o k v r e =
       at-after source o (writeKey k (write v [])) r (length (writeKey k (write v []))) (e ∙ ap (writeKey k) (write-front v [] r) ∙ key-front k (write v []) r) refl
 

@@ -7,8 +7,8 @@ use native.Mathlib.Numerals.{add-one}
 use lib.ListN.{length, getD, drop, length-append}
 use lib.Seq.{getD-drop, drop-drop, drop-at}
 use Rattle.reader.specs.Tree.{leaf, ref, branch, none, pair, count, nodes, nodesIn, ordinals}
-use Rattle.reader.specs.Syntax.{null, bool, int, float, string, array, object, Scalar, Container, Value, Values, own, write, writeKey, writeNumber, writeContainer}
-use Rattle.reader.specs.Table.{Node, scalarNode, branchNode, table, tableIn}
+use Rattle.reader.specs.Syntax.{null, bool, int, float, string, array, object, Scalar, Container, Value, Values, own}
+use Rattle.reader.specs.Table.{Node, scalarNode, branchNode, table, tableIn, pairsOffset, valueOffset, nextOffset}
 
 -- ---- what stands at an index of a list
 module _ {A : Type 0} where
@@ -27,13 +27,13 @@ module _ (to : ℕ → ℕ) where
     pub table-length : (v : Value) (o i n : ℕ) → length (table to o i n v) ≡ nodes v
     table-length (leaf x) o i n = refl
     table-length (ref r) o i n = refl
-    table-length (branch h ps) o i n = ap suc (tableIn-length ps (o + length (writeContainer (h .container) (writeNumber (h .spelling) (count ps) [])) + 2) (suc i) (suc n))
+    table-length (branch h ps) o i n = ap suc (tableIn-length ps (pairsOffset o h (count ps)) (suc i) (suc n))
 
     pub tableIn-length : (ps : Values) (o i n : ℕ) → length (tableIn to o i n ps) ≡ nodesIn ps
     tableIn-length none o i n = refl
     tableIn-length (pair k v ps) o i n =
-        ap suc (length-append (table to (o + length (writeKey k [])) (suc i) n v) (tableIn to (o + length (writeKey k (write v []))) (suc (i + nodes v)) (n + ordinals own v) ps)
-        ∙ ap₂ _+_ (table-length v (o + length (writeKey k [])) (suc i) n) (tableIn-length ps (o + length (writeKey k (write v []))) (suc (i + nodes v)) (n + ordinals own v)))
+        ap suc (length-append (table to (valueOffset o k) (suc i) n v) (tableIn to (nextOffset o k v) (suc (i + nodes v)) (n + ordinals own v) ps)
+        ∙ ap₂ _+_ (table-length v (valueOffset o k) (suc i) n) (tableIn-length ps (nextOffset o k v) (suc (i + nodes v)) (n + ordinals own v)))
 
 -- words 1 and 5
 pub record Carries (x : Node) (n e : ℕ) : Type 0 where

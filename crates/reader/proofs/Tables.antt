@@ -11,12 +11,12 @@ use Rattle.reader.specs.Syntax.{intKey, stringKey, null, bool, int, floa
 use Rattle.reader.specs.Keys.{keyMeaning}
 use Rattle.reader.specs.Fits.{Valid}
 use Rattle.reader.specs.Meaning.{meaning, scalarMeaning, headMeaning, referenceMeaning}
-use Rattle.reader.specs.Table.{Node, keyNode, scalarNode, branchNode, taken, refNode, table, indices, indicesIn, targetOf, tableOf}
-use Rattle.reader.specs.Shows.{upFrom, nodeAt, pairAt, follow, Row, Numbered, Text, ShowsKey, ShowsScalar, ShowsHead, Taking, ShowsReference, Shows, ShowsIn}
+use Rattle.reader.specs.Table.{Node, keyNode, scalarNode, branchNode, taken, refNode, table, indices, indicesIn, targetOf, tableOf, pairsOffset, valueOffset, nextOffset}
+use Rattle.reader.specs.Shows.{upFrom, nodeAt, pairAt, follow, Row, WithOrdinal, Text, ShowsKey, ShowsScalar, ShowsHead, Taking, ShowsReference, Shows, ShowsIn}
 use Rattle.reader.proofs.Maps.{Refs, RefsIn, refs-map, count-map, nodesIn-map}
 use Rattle.reader.proofs.OneText.{Taken, refs-taken}
 use Rattle.reader.proofs.Rows.{at-first, scalar-carries, branch-carries}
-use Rattle.reader.proofs.Numbers.{up-append, up-at}
+use Rattle.reader.proofs.Ordinals.{up-append, up-at}
 use Rattle.reader.proofs.Places.{InTable, PairsInTable, contents-in, first-in, others-in, contents-text, value-text, others-text, quoted-text, float-text}
 
 module _ (rows : List Node) (to : ℕ → ℕ) where
@@ -54,7 +54,7 @@ module _ (rows : List Node) (to : ℕ → ℕ) where
     paths-lead (leaf x) o i n t = refl
     paths-lead (ref r) o i n t = map-only (own r) i
     paths-lead (branch h ps) o i n t = ap {B = List ℕ} (λ l. i ∷ l)
-        (pathsIn-lead ps (o + length (writeContainer (h .container) (writeNumber (h .spelling) (count ps) [])) + 2) i (suc i) 0 (suc n) (contents-in rows to o i n h ps t) refl)
+        (pathsIn-lead ps (pairsOffset o h (count ps)) i (suc i) 0 (suc n) (contents-in rows to o i n h ps t) refl)
 
     -- of the pairs of the value at node i, those from place q on, which begin at node j
     pathsIn-lead : (ps : Values) (o i j q n : ℕ) → PairsInTable rows to o j n ps → pairAt rows (suc i) q ≡ j → map (follow rows i) (pathsIn own q ps) ≡ indicesIn j ps
@@ -62,10 +62,10 @@ module _ (rows : List Node) (to : ℕ → ℕ) where
     pathsIn-lead (pair k v ps) o i j q n t e =
         let f = first-in rows to o j n k v ps t in
         let next : pairAt rows (suc i) (suc q) ≡ suc (j + nodes v) =
-        ap (λ (m : ℕ). nodeAt rows (suc m) .end) e ∙ end-is v (o + length (writeKey k [])) (suc j) n f ∙ omega arith in
+        ap (λ (m : ℕ). nodeAt rows (suc m) .end) e ∙ end-is v (valueOffset o k) (suc j) n f ∙ omega arith in
         map-append (follow rows i) (map (λ (a : TreePath). q ∷ a) (paths own v)) (pathsIn own (suc q) ps)
-        ∙ ap₂ _++_ (map-through i q (paths own v) ∙ ap (λ (m : ℕ). map (follow rows (suc m)) (paths own v)) e ∙ paths-lead v (o + length (writeKey k [])) (suc j) n f)
-        (pathsIn-lead ps (o + length (writeKey k (write v []))) i (suc (j + nodes v)) (suc q) (n + ordinals own v) (others-in rows to o j n k v ps t) next)
+        ∙ ap₂ _++_ (map-through i q (paths own v) ∙ ap (λ (m : ℕ). map (follow rows (suc m)) (paths own v)) e ∙ paths-lead v (valueOffset o k) (suc j) n f)
+        (pathsIn-lead ps (nextOffset o k v) i (suc (j + nodes v)) (suc q) (n + ordinals own v) (others-in rows to o j n k v ps t) next)
 
   -- ---- the nodes at the indices carry the ordinals
   abbrev ordinalAt : ℕ → ℕ
@@ -81,14 +81,14 @@ module _ (rows : List Node) (to : ℕ → ℕ) where
     indices-carry (ref r) o i n t = only-ordinal (own r) i n (ap (λ (y : Node). y .ordinal) (node-is (ref r) o i n t))
     indices-carry (branch h ps) o i n t =
         ap₂ {C = List ℕ} _∷_ (ap (λ (y : Node). y .ordinal) (node-is (branch h ps) o i n t) ∙ branch-carries o n (h .container) (count ps) (i + suc (nodesIn ps)) .ordinal)
-        (indicesIn-carry ps (o + length (writeContainer (h .container) (writeNumber (h .spelling) (count ps) [])) + 2) (suc i) (suc n) (contents-in rows to o i n h ps t))
+        (indicesIn-carry ps (pairsOffset o h (count ps)) (suc i) (suc n) (contents-in rows to o i n h ps t))
 
     indicesIn-carry : (ps : Values) (o i n : ℕ) → PairsInTable rows to o i n ps → map ordinalAt (indicesIn i ps) ≡ upFrom n (ordinalsIn own ps)
     indicesIn-carry none o i n t = refl
     indicesIn-carry (pair k v ps) o i n t =
         map-append ordinalAt (indices (suc i) v) (indicesIn (suc (i + nodes v)) ps)
-        ∙ ap₂ _++_ (indices-carry v (o + length (writeKey k [])) (suc i) n (first-in rows to o i n k v ps t))
-        (indicesIn-carry ps (o + length (writeKey k (write v []))) (suc (i + nodes v)) (n + ordinals own v) (others-in rows to o i n k v ps t))
+        ∙ ap₂ _++_ (indices-carry v (valueOffset o k) (suc i) n (first-in rows to o i n k v ps t))
+        (indicesIn-carry ps (nextOffset o k v) (suc (i + nodes v)) (n + ordinals own v) (others-in rows to o i n k v ps t))
         ∙ sym (up-append n (ordinals own v) (ordinalsIn own ps))
 
   -- ---- what the nodes show
@@ -102,8 +102,8 @@ module _ (rows : List Node) (to : ℕ → ℕ) where
   content-is : (i : ℕ) (x : Node) → nodeAt rows i ≡ x → nodeAt rows i .content ≡ x .content
   content-is i x e = ap (λ (y : Node). y .content) e
 
-  numbered : (i : ℕ) (x : Node) → nodeAt rows i ≡ x → 1 ≤ x .ordinal → Numbered rows i
-  numbered i x e h = let o = ordinal-is i x e in omega arith
+  with-ordinal : (i : ℕ) (x : Node) → nodeAt rows i ≡ x → 1 ≤ x .ordinal → WithOrdinal rows i
+  with-ordinal i x e h = let o = ordinal-is i x e in omega arith
 
   -- what a reference needs, where `env` gives the paths of the ordinals
   record Resolved (env : List TreePath) (r : Reference) : Type 0 where
@@ -121,16 +121,16 @@ module _ (source : List ℕ) (rows : List Node) (to : ℕ → ℕ) where
   key-shown (stringKey q) o i r e s = (row-is rows to i Kind.string _ e refl, ordinal-is rows to i _ e, text-shown i _ (q .text) e (quoted-text source o 115 q (59 ∷ r) s))
 
   scalar-shown : (x : Scalar) (o i n : ℕ) (r : List ℕ) → nodeAt rows i ≡ scalarNode o i n x → 1 ≤ n → drop o source ≡ writeScalar x r → ShowsScalar source rows i (scalarMeaning x)
-  scalar-shown null o i n r e h s = (row-is rows to i Kind.null _ e refl, numbered rows to i _ e h, content-is rows to i _ e)
-  scalar-shown (bool b) o i n r e h s = (row-is rows to i Kind.bool _ e refl, numbered rows to i _ e h, content-is rows to i _ e)
-  scalar-shown (int x) o i n r e h s = (row-is rows to i Kind.int _ e refl, numbered rows to i _ e h, content-is rows to i _ e)
-  scalar-shown (float t) o i n r e h s = (row-is rows to i Kind.float _ e refl, numbered rows to i _ e h, text-shown i _ t e (float-text source o 100 t r s))
-  scalar-shown (string q) o i n r e h s = (row-is rows to i Kind.string _ e refl, numbered rows to i _ e h, text-shown i _ (q .text) e (quoted-text source o 115 q (59 ∷ r) s))
+  scalar-shown null o i n r e h s = (row-is rows to i Kind.null _ e refl, with-ordinal rows to i _ e h, content-is rows to i _ e)
+  scalar-shown (bool b) o i n r e h s = (row-is rows to i Kind.bool _ e refl, with-ordinal rows to i _ e h, content-is rows to i _ e)
+  scalar-shown (int x) o i n r e h s = (row-is rows to i Kind.int _ e refl, with-ordinal rows to i _ e h, content-is rows to i _ e)
+  scalar-shown (float t) o i n r e h s = (row-is rows to i Kind.float _ e refl, with-ordinal rows to i _ e h, text-shown i _ t e (float-text source o 100 t r s))
+  scalar-shown (string q) o i n r e h s = (row-is rows to i Kind.string _ e refl, with-ordinal rows to i _ e h, text-shown i _ (q .text) e (quoted-text source o 115 q (59 ∷ r) s))
 
   head-shown : (c : Container) (o i n pairs e : ℕ) (r : List ℕ) → nodeAt rows i ≡ branchNode o n c pairs e → 1 ≤ n → drop o source ≡ writeContainer c r
       → ShowsHead source rows i pairs e (mapContainer (λ (q : Quoted). q .text) c)
-  head-shown array o i n pairs e r p h s = (row-is rows to i Kind.array _ p refl, numbered rows to i _ p h, content-is rows to i _ p)
-  head-shown (object q) o i n pairs e r p h s = (row-is rows to i Kind.object _ p refl, numbered rows to i _ p h, text-shown i _ (q .text) p (quoted-text source o 79 q (58 ∷ r) s))
+  head-shown array o i n pairs e r p h s = (row-is rows to i Kind.array _ p refl, with-ordinal rows to i _ p h, content-is rows to i _ p)
+  head-shown (object q) o i n pairs e r p h s = (row-is rows to i Kind.object _ p refl, with-ordinal rows to i _ p h, text-shown i _ (q .text) p (quoted-text source o 79 q (58 ∷ r) s))
 
   -- where `env` gives the paths of the ordinals
   module _ (env : List TreePath) where
@@ -146,7 +146,7 @@ module _ (source : List ℕ) (rows : List Node) (to : ℕ → ℕ) where
           row = subst (λ (l : ℕ). Row rows i (refKind (r .kind)) 0 l (suc i)) (g .leads) row;
           taking = taking (r .kind) i n h (ordinal-is rows to i _ e);
           named = ap (ordinalAt rows to) (row .link) ∙ g .carries ∙ sym content;
-          number = omega (arith, g .least);
+          least = omega (arith, g .least);
         }
 
     mutual
@@ -159,7 +159,7 @@ module _ (source : List ℕ) (rows : List Node) (to : ℕ → ℕ) where
       shows (branch b ps) o i n r t h s g = (
         rw (count-map keyMeaning scalarMeaning headMeaning (referenceMeaning env) ps, nodesIn-map keyMeaning scalarMeaning headMeaning (referenceMeaning env) ps)
             (head-shown (b .container) o i n (count ps) (i + suc (nodesIn ps)) (writeNumber (b .spelling) (count ps) (58 ∷ 123 ∷ writePairs ps (125 ∷ r))) (node-is rows to (branch b ps) o i n t) h s),
-        showsIn ps (o + length (writeContainer (b .container) (writeNumber (b .spelling) (count ps) [])) + 2) (suc i) (suc i) (suc n) (125 ∷ r) (contents-in rows to o i n b ps t) (omega arith)
+        showsIn ps (pairsOffset o b (count ps)) (suc i) (suc i) (suc n) (125 ∷ r) (contents-in rows to o i n b ps t) (omega arith)
             (contents-text source o (b .container) (b .spelling) (count ps) (writePairs ps (125 ∷ r)) s) g refl,
       )
 
@@ -169,11 +169,11 @@ module _ (source : List ℕ) (rows : List Node) (to : ℕ → ℕ) where
       showsIn none o i j n r t h s g e = tt
       showsIn (pair k v ps) o i j n r t h s g e =
           let f = first-in rows to o i n k v ps t in
-          let next : nodeAt rows (suc i) .end ≡ suc (i + nodes v) = end-is rows to v (o + length (writeKey k [])) (suc i) n f ∙ omega arith in
+          let next : nodeAt rows (suc i) .end ≡ suc (i + nodes v) = end-is rows to v (valueOffset o k) (suc i) n f ∙ omega arith in
           rw e (
             key-shown k o i (write v (writePairs ps r)) (at-first rows i (keyNode o i k) _ _ (t .here)) s,
-            shows v (o + length (writeKey k [])) (suc i) n (writePairs ps r) f h (value-text source o k (write v (writePairs ps r)) s) (g .0),
-            showsIn ps (o + length (writeKey k (write v []))) (suc (i + nodes v)) (nodeAt rows (suc i) .end) (n + ordinals own v) r (others-in rows to o i n k v ps t) (omega arith) (others-text source o k v (writePairs ps r) s) (g .1) next,
+            shows v (valueOffset o k) (suc i) n (writePairs ps r) f h (value-text source o k (write v (writePairs ps r)) s) (g .0),
+            showsIn ps (nextOffset o k v) (suc (i + nodes v)) (nodeAt rows (suc i) .end) (n + ordinals own v) r (others-in rows to o i n k v ps t) (omega arith) (others-text source o k v (writePairs ps r) s) (g .1) next,
           )
 
 -- ---- the whole table

@@ -12,10 +12,10 @@ use Rattle.reader.specs.Keys.{KeyMeaning}
 use Rattle.reader.specs.Meaning.{Meaning, ScalarMeaning, HeadMeaning, ReferenceMeaning}
 use Rattle.reader.specs.Table.{Node, word}
 
--- the numbers taken, in table order: the words 1 that are not 0
-abbrev pub numbersOf : List Node → List ℕ
-numbersOf [] = []
-numbersOf (n ∷ ns) = elim (eqb (n .ordinal) 0) [ true ↦ numbersOf ns | false ↦ n .ordinal ∷ numbersOf ns ]
+-- the ordinals taken, in table order: the words 1 that are not 0
+abbrev pub ordinalsOf : List Node → List ℕ
+ordinalsOf [] = []
+ordinalsOf (n ∷ ns) = elim (eqb (n .ordinal) 0) [ true ↦ ordinalsOf ns | false ↦ n .ordinal ∷ ordinalsOf ns ]
 
 -- so many numbers, from n on
 abbrev pub upFrom : (n count : ℕ) → List ℕ
@@ -44,25 +44,25 @@ module _ (rows : List Node) where
     pub end : nodeAt i .end ≡ e
 
   -- word 1, and word 2
-  abbrev pub Numbered : ℕ → Type 0
-  Numbered i = 1 ≤ nodeAt i .ordinal
+  abbrev pub WithOrdinal : ℕ → Type 0
+  WithOrdinal i = 1 ≤ nodeAt i .ordinal
 
-  abbrev pub Unnumbered : ℕ → Type 0
-  Unnumbered i = nodeAt i .ordinal ≡ 0
+  abbrev pub WithoutOrdinal : ℕ → Type 0
+  WithoutOrdinal i = nodeAt i .ordinal ≡ 0
 
   abbrev pub Content : (i content : ℕ) → Type 0
   Content i n = nodeAt i .content ≡ n
 
   abbrev pub Taking : RefKind → ℕ → Type 0
-  Taking objectRef i = Numbered i
-  Taking variableRef i = Unnumbered i
+  Taking objectRef i = WithOrdinal i
+  Taking variableRef i = WithoutOrdinal i
 
   -- word 4 is "index of the node named": the node at the path named, and it carries the number in word 2
   pub record ShowsReference (i : ℕ) (r : ReferenceMeaning) : Type 0 where
     pub row : Row i (refKind (r .kind)) 0 (follow 0 (r .names)) (suc i)
     pub taking : Taking (r .kind) i
     pub named : nodeAt (nodeAt i .link) .ordinal ≡ nodeAt i .content
-    pub number : 1 ≤ nodeAt i .content
+    pub least : 1 ≤ nodeAt i .content
 
 module _ (source : List ℕ) (rows : List Node) where
   -- word 2 as the offset of a text
@@ -70,19 +70,19 @@ module _ (source : List ℕ) (rows : List Node) where
   Text i t = take (length t) (drop (nodeAt rows i .content) source) ≡ t
 
   abbrev pub ShowsKey : (i : ℕ) → KeyMeaning → Type 0
-  ShowsKey i (intKey n) = Row rows i Kind.int 0 0 (suc i) × Unnumbered rows i × Content rows i (word n)
-  ShowsKey i (stringKey t) = Row rows i Kind.string (length t) 0 (suc i) × Unnumbered rows i × Text i t
+  ShowsKey i (intKey n) = Row rows i Kind.int 0 0 (suc i) × WithoutOrdinal rows i × Content rows i (word n)
+  ShowsKey i (stringKey t) = Row rows i Kind.string (length t) 0 (suc i) × WithoutOrdinal rows i × Text i t
 
   abbrev pub ShowsScalar : (i : ℕ) → ScalarMeaning → Type 0
-  ShowsScalar i null = Row rows i Kind.null 0 0 (suc i) × Numbered rows i × Content rows i 0
-  ShowsScalar i (bool b) = Row rows i Kind.bool 0 0 (suc i) × Numbered rows i × Content rows i (one b)
-  ShowsScalar i (int n) = Row rows i Kind.int 0 0 (suc i) × Numbered rows i × Content rows i (word n)
-  ShowsScalar i (float t) = Row rows i Kind.float (length t) 0 (suc i) × Numbered rows i × Text i t
-  ShowsScalar i (string t) = Row rows i Kind.string (length t) 0 (suc i) × Numbered rows i × Text i t
+  ShowsScalar i null = Row rows i Kind.null 0 0 (suc i) × WithOrdinal rows i × Content rows i 0
+  ShowsScalar i (bool b) = Row rows i Kind.bool 0 0 (suc i) × WithOrdinal rows i × Content rows i (one b)
+  ShowsScalar i (int n) = Row rows i Kind.int 0 0 (suc i) × WithOrdinal rows i × Content rows i (word n)
+  ShowsScalar i (float t) = Row rows i Kind.float (length t) 0 (suc i) × WithOrdinal rows i × Text i t
+  ShowsScalar i (string t) = Row rows i Kind.string (length t) 0 (suc i) × WithOrdinal rows i × Text i t
 
   abbrev pub ShowsHead : (i pairs end : ℕ) → HeadMeaning → Type 0
-  ShowsHead i n e array = Row rows i Kind.array 0 n e × Numbered rows i × Content rows i 0
-  ShowsHead i n e (object t) = Row rows i Kind.object (length t) n e × Numbered rows i × Text i t
+  ShowsHead i n e array = Row rows i Kind.array 0 n e × WithOrdinal rows i × Content rows i 0
+  ShowsHead i n e (object t) = Row rows i Kind.object (length t) n e × WithOrdinal rows i × Text i t
 
   -- the node of a value, then those of its pairs: each a key's and then a value's
   abbrev mutual

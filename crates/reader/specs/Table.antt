@@ -7,7 +7,7 @@ use Rattle.decimal.specs.Complement.{pattern}
 use Rattle.reader.specs.Kind.{Kind, tag, hasText}
 use Rattle.reader.specs.Tree.{leaf, ref, branch, none, pair, count, nodes, nodesIn, ordinals, one, only}
 use Rattle.reader.specs.Keys.{Integer, nonneg, negsuc, integer}
-use Rattle.reader.specs.Syntax.{intKey, stringKey, null, bool, int, float, string, array, object, Quoted, Key, Scalar, Container, refKind, Reference, Value, Values, own, write, writeKey, writeNumber, writeContainer}
+use Rattle.reader.specs.Syntax.{intKey, stringKey, null, bool, int, float, string, array, object, Quoted, Key, Scalar, Container, Head, refKind, Reference, Value, Values, own, write, writeKey, writeNumber, writeContainer}
 
 pub record Node : Type 0 where
   -- word 0: "the letter's byte"
@@ -71,6 +71,16 @@ taken false n = 0
 abbrev pub refNode : (target i n : ℕ) → Reference → Node
 refNode target i n r = record { tag = tag (refKind (r .kind)); ordinal = taken (own r) n; content = r .ordinal; size = 0; link = target; end = suc i }
 
+-- where the first pair of a container begins, what follows a key, and what follows a pair; the tag or the key stands at `o`
+abbrev pub pairsOffset : (o : ℕ) → Head → (pairs : ℕ) → ℕ
+pairsOffset o h n = o + length (writeContainer (h .container) (writeNumber (h .spelling) n [])) + 2
+
+abbrev pub valueOffset : (o : ℕ) → Key → ℕ
+valueOffset o k = o + length (writeKey k [])
+
+abbrev pub nextOffset : (o : ℕ) → Key → Value → ℕ
+nextOffset o k v = o + length (writeKey k (write v []))
+
 -- the nodes of a value: `to` gives the index of the node that carries an ordinal; `o` is the tag's position, `i` the node's index and `n` the next ordinal
 module _ (to : ℕ → ℕ) where
   abbrev mutual
@@ -78,13 +88,13 @@ module _ (to : ℕ → ℕ) where
     table o i n (leaf x) = scalarNode o i n x ∷ []
     table o i n (ref r) = refNode (to (r .ordinal)) i n r ∷ []
     table o i n (branch h ps) = branchNode o n (h .container) (count ps) (i + suc (nodesIn ps))
-        ∷ tableIn (o + length (writeContainer (h .container) (writeNumber (h .spelling) (count ps) [])) + 2) (suc i) (suc n) ps
+        ∷ tableIn (pairsOffset o h (count ps)) (suc i) (suc n) ps
 
     pub tableIn : (o i n : ℕ) → Values → List Node
     tableIn o i n none = []
     tableIn o i n (pair k v ps) = keyNode o i k
-        ∷ table (o + length (writeKey k [])) (suc i) n v
-        ++ tableIn (o + length (writeKey k (write v []))) (suc (i + nodes v)) (n + ordinals own v) ps
+        ∷ table (valueOffset o k) (suc i) n v
+        ++ tableIn (nextOffset o k v) (suc (i + nodes v)) (n + ordinals own v) ps
 
 -- the indices of the nodes that carry the ordinals, in their order; `i` is the value's own index
 abbrev mutual
