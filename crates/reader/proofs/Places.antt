@@ -46,9 +46,10 @@ module _ (rows : List Node) (to : ℕ → ℕ) where
 
 -- ---- bytes
 module _ (source : List ℕ) where
-  pub contents-text : (o : ℕ) (c : Container) (w : Spelling) (n : ℕ) (r : List ℕ) → drop o source ≡ writeContainer c (writeNumber w n (58 ∷ 123 ∷ r))
-      → drop (o + length (writeContainer c (writeNumber w n [])) + 2) source ≡ r
-  contents-text o c w n r e =
+  pub contents-text : (o : ℕ) (h : Head) (n : ℕ) (r : List ℕ) → drop o source ≡ writeContainer (h .container) (writeNumber (h .spelling) n (58 ∷ 123 ∷ r)) → drop (pairsOffset o h n) source ≡ r
+  contents-text o h n r e =
+      let c : Container = h .container in
+      let w : Spelling = h .spelling in
       let xs : List ℕ = writeContainer c (writeNumber w n []) in
       at-after source (o + length xs) (58 ∷ 123 ∷ []) r 2
       (at-after source o xs (58 ∷ 123 ∷ r) (length xs) (e ∙ ap (writeContainer c) (number-front w n [] (58 ∷ 123 ∷ r)) ∙ container-front c (writeNumber w n []) (58 ∷ 123 ∷ r)) refl) refl

@@ -160,7 +160,7 @@ module _ (source : List ℕ) (rows : List Node) (to : ℕ → ℕ) where
         rw (count-map keyMeaning scalarMeaning headMeaning (referenceMeaning env) ps, nodesIn-map keyMeaning scalarMeaning headMeaning (referenceMeaning env) ps)
             (head-shown (b .container) o i n (count ps) (i + suc (nodesIn ps)) (writeNumber (b .spelling) (count ps) (58 ∷ 123 ∷ writePairs ps (125 ∷ r))) (node-is rows to (branch b ps) o i n t) h s),
         showsIn ps (pairsOffset o b (count ps)) (suc i) (suc i) (suc n) (125 ∷ r) (contents-in rows to o i n b ps t) (omega arith)
-            (contents-text source o (b .container) (b .spelling) (count ps) (writePairs ps (125 ∷ r)) s) g refl,
+            (contents-text source o b (count ps) (writePairs ps (125 ∷ r)) s) g refl,
       )
 
       -- the index is what the node before says

@@ -58,7 +58,7 @@ abbrev mutual
   LimitedIn none = Unit {0}
   LimitedIn (pair k v ps) = Limited v × LimitedIn ps
 
--- "A reference may name number t only if t was taken before the reference's own letter: at least 1, at most the count taken so far"
+-- "A reference may name number t only if t was taken before the reference's own letter: at least 1, at most the count taken so far, an r's own number not included. It may name a container that is still open."
 abbrev mutual
   pub Backward : Seen → Value → Type 0
   Backward seen (leaf x) = Unit {0}

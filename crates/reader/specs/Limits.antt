@@ -17,7 +17,7 @@ numberLimit = 65536
 abbrev pub sourceLimit : ℕ
 sourceLimit = 65536
 
--- "to a depth of 64: the plan itself has depth 1"
+-- "to a depth of 64: the plan itself has depth 1, a value in a container one more than the container. Keys have no depth."
 abbrev pub depthLimit : ℕ
 depthLimit = 64
 

@@ -8,7 +8,7 @@ use Rattle.reader.specs.Syntax.{ScalarOf, ContainerOf, mapScalar, mapCon
 use Rattle.reader.specs.Keys.{Integer, integer, KeyMeaning, keyMeaning}
 use Rattle.reader.specs.Fits.{Valid}
 
--- "for b its 0 or 1, for i its integer, for d and s its text"
+-- "for b its 0 or 1, for i its integer, for d and s its text"; "A float's meaning here is its text."
 abbrev pub ScalarMeaning : Type 0
 ScalarMeaning = ScalarOf Integer (List ℕ)
 

@@ -83,7 +83,7 @@ floatText l s = do
   s₂ ← expect l (bytes ";") (drop (length (until (byte ";") s₁)) s₁)
   ok (until (byte ";") s₁, s₂)
 
--- 6 comes "after the closing `;`"
+-- "6 and 9 come after the closing `;`."
 unfoldable pub referenceText : RefKind → (l : ℕ) → Seen → List ℕ → Answer (Reference × List ℕ)
 referenceText k l seen s = do
   s₁ ← expect l (bytes ":") s
@@ -126,7 +126,7 @@ abbrev pub Inner : Type 0
 Inner = Seen → (before : ℕ) → List ℕ → Answer (Value × List ℕ)
 
 module _ (set : Setting) where
-  -- a key of a container with the keys `earlier`; "4, … then 7, then the text"; 9 comes "after the closing `;`"
+  -- a key of a container with the keys `earlier`: 4, then 7, then the text, then 9
   unfoldable pub readKey : Container → (earlier : List Key) → (before : ℕ) → List ℕ → Answer (Key × List ℕ)
   readKey c earlier before s = do
     (k, s₁) ← tagOf (keyKinds (isArray c)) 4 (position set s) s

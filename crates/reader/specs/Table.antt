@@ -107,7 +107,7 @@ abbrev mutual
   indicesIn i none = []
   indicesIn i (pair k v ps) = indices (suc i) v ++ indicesIn (suc (i + nodes v)) ps
 
--- "index of the node named"
+-- "It may name an r; it then resolves to that r, one step only."
 abbrev pub targetOf : Value → (ordinal : ℕ) → ℕ
 targetOf v n = getD (indices 0 v) (n - 1) 0
 
