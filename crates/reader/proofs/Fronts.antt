@@ -36,7 +36,7 @@ pub key-front : (k : Key) (r s : List ℕ) → writeKey k (r ++ s) ≡ writeKey 
 key-front (intKey x) r s = int-front x r s
 key-front (stringKey q) r s = string-front q r s
 
-scalar-front : (x : Scalar) (r s : List ℕ) → writeScalar x (r ++ s) ≡ writeScalar x r ++ s
+pub scalar-front : (x : Scalar) (r s : List ℕ) → writeScalar x (r ++ s) ≡ writeScalar x r ++ s
 scalar-front null r s = refl
 scalar-front (bool b) r s = refl
 scalar-front (int x) r s = int-front x r s
@@ -52,7 +52,7 @@ mutual
 
   pub write-front : (v : Value) (r s : List ℕ) → write v (r ++ s) ≡ write v r ++ s
   write-front (leaf x) r s = scalar-front x r s
-  write-front (ref n) r s = ap {B = List ℕ} (λ y. tag (refKind (n .kind)) ∷ 58 ∷ y) (number-front (n .spelling) (n .ordinal) (59 ∷ r) s)
+  write-front (ref n) r s = ap {B = List ℕ} (λ y. tag (refKind (n .kind)) ∷ 58 ∷ y) (number-front (n .spelling) (n .named) (59 ∷ r) s)
   write-front (branch h ps) r s =
       ap (λ (y : List ℕ). writeContainer (h .container) (writeNumber (h .spelling) (count ps) (58 ∷ 123 ∷ y))) (pairs-front ps (125 ∷ r) s)
       ∙ ap (writeContainer (h .container)) (number-front (h .spelling) (count ps) (58 ∷ 123 ∷ writePairs ps (125 ∷ r)) s)

@@ -12,12 +12,12 @@ use Rattle.reader.specs.Tree.{leaf, ref, count, nodes, nodesIn}
 use Rattle.reader.specs.Syntax.{null, bool, int, float, string, array, object, Spelling, Key, Scalar, Container, RefKind, objectRef, variableRef, refKind, Value, Values, writeNumber, writeKey, writeScalar, writeContainer, write, writePairs, print}
 use Rattle.reader.specs.Keys.{hasKey}
 use Rattle.reader.specs.Limits.{sourceLimit, depthLimit, Seen, unseen, seeBranch, see}
-use Rattle.reader.specs.Fits.{KeyFits, ScalarFits, ContainerFits, allowed, Sound, SoundIn, Limited, LimitedIn, Backward, BackwardIn, Shallow, ShallowIn, Fits}
+use Rattle.reader.specs.Fits.{KeyFits, ScalarFits, ContainerFits, allowed, Sound, SoundIn, Limited, LimitedIn, Backward, BackwardIn, Shallow, ShallowIn, Fits, IsPlan}
 use Rattle.reader.specs.Answer.{ok, _>>=_, require}
 use Rattle.reader.specs.Read.{tagOf, expect, number, intText, quotedText, boolText, floatText, referenceText, Setting, setting, position, isArray, keyText, Inner, readKey, readPairs, readBranch, readBody, readValue, read}
 use Rattle.reader.proofs.Answers.{ok-same, not-both, bind-ok, require-ok}
 use Rattle.reader.proofs.Floats.{empty-ok}
-use Rattle.reader.proofs.Texts.{tag-ok, expect-ok, number-ok, int-ok, quoted-ok, bool-ok, float-ok, reference-ok, keyText-ok, key-allowed}
+use Rattle.reader.proofs.Texts.{tag-ok, expect-ok, number-ok, int-ok, quoted-ok, bool-ok, float-ok, reference-ok, key-kind, keyText-ok, key-allowed}
 
 -- ---- values and pairs
 
@@ -37,7 +37,7 @@ module _ (set : Setting) where
       let b = bind-ok (require (ltb before (set .capacity)) 7 l) _ q (a .2) in
       let c = bind-ok (keyText (a .0 .0) l (a .0 .1)) _ q (b .2) in
       let d = bind-ok (require (not (hasKey (c .0 .0) earlier)) 9 l) _ q (c .2) in
-      let t = keyText-ok (a .0 .0) l (a .0 .1) (c .0) (c .1) in
+      let t = keyText-ok (a .0 .0) l (a .0 .1) (c .0) (key-kind h l s (a .0) (a .1)) (c .1) in
       subst (GotKey h earlier before s) (ok-same (d .2)) (record {
         text = tag-ok (keyKinds (isArray h)) 4 l s (a .0) (a .1) ∙ t .text;
         fits = t .fits;
@@ -180,13 +180,8 @@ module _ (set : Setting) where
       (body-ok (readValue set d) d (λ t b′ s′ q′ e′. value-ok d t b′ s′ q′ e′) (a .0 .0) l seen before (a .0 .1) q
       (ltb→lt before (set .capacity) (require-ok (ltb before (set .capacity)) 7 l (b .0) (b .1))) (b .2))
 
--- what is known of an accepted plan
-pub record Printed (capacity : ℕ) (source : List ℕ) (v : Value) : Type 0 where
-  pub text : source ≡ print v
-  pub fits : Fits capacity v
-
 -- WHAT IS ACCEPTED FITS: it is the print of what was read.
-pub read-ok : (capacity : ℕ) (source : List ℕ) (v : Value) → read capacity source ≡ ok v → Printed capacity source v
+pub read-ok : (capacity : ℕ) (source : List ℕ) (v : Value) → read capacity source ≡ ok v → IsPlan capacity source v
 unfolding read
 read-ok capacity source v e =
     let n : ℕ = length source in
@@ -195,8 +190,8 @@ read-ok capacity source v e =
     let c = bind-ok (require (isEmpty (b .0 .1)) 10 (position (setting capacity source) (b .0 .1))) _ v (b .2) in
     let g = value-ok (setting capacity source) depthLimit unseen 0 source (b .0) (b .1) in
     let t : source ≡ print (b .0 .0) = g .text ∙ ap (write (b .0 .0)) (empty-ok (b .0 .1) (require-ok (isEmpty (b .0 .1)) 10 (position (setting capacity source) (b .0 .1)) (c .0) (c .1))) in
-    subst (Printed capacity source) (ok-same (c .2)) (record {
-      text = t;
+    subst (IsPlan capacity source) (ok-same (c .2)) (record {
+      printed = t;
       fits = record {
         valid = record {
           short = rw t at (leb→le n sourceLimit (require-ok (leb n sourceLimit) 1 0 (a .0) (a .1)));

@@ -7,7 +7,8 @@ use lib.Dec.{T, eqb, eqb→eq, eqb-refl}
 use Rattle.decimal.proofs.Decide.{and-T, and-left, and-right}
 use Rattle.reader.specs.Bytes.{sameBytes}
 use Rattle.reader.specs.Syntax.{intKey, stringKey, Key}
-use Rattle.reader.specs.Keys.{Integer, nonneg, negsuc, sameInteger, KeyMeaning, keyMeaning, sameMeaning, sameKey}
+use lib.IntN.{ℤ, pos, negsuc}
+use Rattle.reader.specs.Keys.{sameInteger, KeyMeaning, keyMeaning, sameMeaning, sameKey}
 
 pub bytes-equal : (s t : List ℕ) → T (sameBytes s t) → s ≡ t
 bytes-equal [] [] h = refl
@@ -19,14 +20,14 @@ bytes-same : (s : List ℕ) → T (sameBytes s s)
 bytes-same [] = tt
 bytes-same (a ∷ s) = and-T (eqb a a) (sameBytes s s) (eqb-refl a) (bytes-same s)
 
-integers-equal : (m n : Integer) → T (sameInteger m n) → m ≡ n
-integers-equal (nonneg m) (nonneg n) h = ap nonneg (eqb→eq m n h)
-integers-equal (nonneg m) (negsuc n) h = absurd h
-integers-equal (negsuc m) (nonneg n) h = absurd h
+integers-equal : (m n : ℤ) → T (sameInteger m n) → m ≡ n
+integers-equal (pos m) (pos n) h = ap pos (eqb→eq m n h)
+integers-equal (pos m) (negsuc n) h = absurd h
+integers-equal (negsuc m) (pos n) h = absurd h
 integers-equal (negsuc m) (negsuc n) h = ap negsuc (eqb→eq m n h)
 
-integers-same : (m : Integer) → T (sameInteger m m)
-integers-same (nonneg m) = eqb-refl m
+integers-same : (m : ℤ) → T (sameInteger m m)
+integers-same (pos m) = eqb-refl m
 integers-same (negsuc m) = eqb-refl m
 
 meanings-equal : (a b : KeyMeaning) → T (sameMeaning a b) → a ≡ b

@@ -16,5 +16,6 @@ pub mod Places
 pub mod NormalForm
 pub mod OneText
 pub mod NormalTable
+pub mod Words
 pub mod Tables
 pub mod Outcome

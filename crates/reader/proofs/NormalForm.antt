@@ -8,7 +8,8 @@ use Rattle.decimal.specs.Digits.{spelled}
 use Rattle.reader.specs.Bytes.{byte}
 use Rattle.reader.specs.Tree.{leaf, ref, branch, none, pair, TreePath, count, nodes, ordinals, paths, mapTree, mapPairs}
 use Rattle.reader.specs.Syntax.{intKey, stringKey, null, bool, int, float, string, array, object, mapContainer, Spelling, Sign, unsigned, plus, minus, Literal, Quoted, Key, Scalar, Container, Value, Values, own, writeNumber, writeSign, writeInt, writeString, writeKey, writeScalar, writeContainer, write, writePairs, print}
-use Rattle.reader.specs.Keys.{Integer, nonneg, negsuc, signed, integer, keyMeaning, hasKey}
+use lib.IntN.{ℤ, pos, negsuc}
+use Rattle.reader.specs.Keys.{signed, integer, keyMeaning, hasKey}
 use Rattle.reader.specs.Limits.{depthLimit, integerLimit, unseen}
 use Rattle.reader.specs.Fits.{IntFits, KeyFits, ScalarFits, ContainerFits, allowed, Sound, SoundIn, Limited, LimitedIn, Backward, BackwardIn, Shallow, ShallowIn, Valid, Fits}
 use Rattle.reader.specs.Answer.{ok}
@@ -20,8 +21,8 @@ use Rattle.reader.proofs.Fronts.{number-length, quoted-length}
 use Rattle.reader.proofs.Printed.{read-print}
 
 -- ---- integers and texts: what they mean, and the shortest way to write that
-abbrev pub literalOf : Integer → Literal
-literalOf (nonneg n) = record { sign = unsigned; zeros = 0; magnitude = n }
+abbrev pub literalOf : ℤ → Literal
+literalOf (pos n) = record { sign = unsigned; zeros = 0; magnitude = n }
 literalOf (negsuc n) = record { sign = minus; zeros = 0; magnitude = suc n }
 
 abbrev pub quotedOf : List ℕ → Quoted
@@ -36,8 +37,8 @@ literal-shortest x = go (x .sign) (x .magnitude)
     go minus zero = refl
     go minus (suc n) = refl
 
-literal-means : (z : Integer) → integer (literalOf z) ≡ z
-literal-means (nonneg n) = refl
+literal-means : (z : ℤ) → integer (literalOf z) ≡ z
+literal-means (pos n) = refl
 literal-means (negsuc n) = refl
 
 pub int-same : (x : Literal) → integer (shortestInt x) ≡ integer x
@@ -110,7 +111,7 @@ mutual
 
   write-shorter : (v : Value) (r t : List ℕ) → length r ≤ length t → length (write (canonical v) r) ≤ length (write v t)
   write-shorter (leaf x) r t h = scalar-shorter x r t h
-  write-shorter (ref n) r t h = omega (arith, number-shorter (n .spelling) (n .ordinal) (byte ";" ∷ r) (byte ";" ∷ t) (omega arith))
+  write-shorter (ref n) r t h = omega (arith, number-shorter (n .spelling) (n .named) (byte ";" ∷ r) (byte ";" ∷ t) (omega arith))
   write-shorter (branch o ps) r t h =
       container-shorter (o .container) (writeNumber shortest (count (canonicalPairs ps)) (byte ":" ∷ byte "{" ∷ writePairs (canonicalPairs ps) (byte "}" ∷ r)))
       (writeNumber (o .spelling) (count ps) (byte ":" ∷ byte "{" ∷ writePairs ps (byte "}" ∷ t)))

@@ -6,14 +6,15 @@ use lib.ListN.{getD}
 use Rattle.reader.specs.Kind.{Kind}
 use Rattle.reader.specs.Tree.{leaf, ref, branch, none, pair, count, nodes, nodesIn, ordinals}
 use Rattle.reader.specs.Syntax.{intKey, stringKey, null, bool, int, float, string, array, object, mapContainer, Key, Scalar, Container, Value, Values, own}
-use Rattle.reader.specs.Keys.{Integer}
+use lib.IntN.{ℤ}
+
 use Rattle.reader.specs.Table.{Node, word, single, keyNode, scalarNode, branchNode, table, tableIn, indices, indicesIn, targetOf, tableOf, withoutOffset, pairsOffset, valueOffset, nextOffset}
 use Rattle.reader.specs.Canonical.{shortestQuoted, canonicalKey, canonicalScalar, canonicalHead, canonicalReference, canonical}
 use Rattle.reader.proofs.Maps.{nodesIn-map}
 use Rattle.reader.proofs.NormalForm.{int-same, canonicalPairs, count-canonical, ordinals-canonical, nodes-canonical}
 
-int-node : (n i : ℕ) (a b : Integer) → a ≡ b → withoutOffset (single Kind.int n (word a) 0 i) ≡ withoutOffset (single Kind.int n (word b) 0 i)
-int-node n i a b e = ap (λ (x : Integer). withoutOffset (single Kind.int n (word x) 0 i)) e
+int-node : (n i : ℕ) (a b : ℤ) → a ≡ b → withoutOffset (single Kind.int n (word a) 0 i) ≡ withoutOffset (single Kind.int n (word b) 0 i)
+int-node n i a b e = ap (λ (x : ℤ). withoutOffset (single Kind.int n (word x) 0 i)) e
 
 key-node : (o o′ i : ℕ) (k : Key) → withoutOffset (keyNode o′ i (canonicalKey k)) ≡ withoutOffset (keyNode o i k)
 key-node o o′ i (intKey x) = int-node 0 i _ _ (int-same x)

@@ -117,14 +117,14 @@ ownMeaning r = hasOrdinal (tag (refKind (r .kind)))
 
 -- the ordinal of the value that is named is one more than its path's rank
 abbrev referenceOf : Meaning → ReferenceMeaning → Reference
-referenceOf m r = record { kind = r .kind; spelling = shortest; ordinal = suc (rank ownMeaning m (r .names)) }
+referenceOf m r = record { kind = r .kind; spelling = shortest; named = suc (rank ownMeaning m (r .names)) }
 
 unfoldable pub canonicalOf : Meaning → Value
 canonicalOf m = mapTree (mapKey literalOf quotedOf) (mapScalar literalOf quotedOf) headOf (referenceOf m) m
 
 -- every reference names an ordinal that is taken
 abbrev pub Taken : (top : ℕ) → Reference → Type 0
-Taken top r = (1 ≤ r .ordinal) × (r .ordinal ≤ top)
+Taken top r = (1 ≤ r .named) × (r .named ≤ top)
 
 mutual
   pub refs-taken : (top : ℕ) (v : Value) (seen : ℕ) → Backward seen v → seen + ordinals own v ≤ top → Refs (Taken top) v
@@ -153,8 +153,8 @@ canonical-of-meaning v f =
 
     reference-of : (r : Reference) → Taken (ordinals own v) r → referenceOf (meaning v) (referenceMeaning (paths own v) r) ≡ canonicalReference r
     reference-of r t =
-        ap (λ (n : ℕ). record { kind = r .kind; spelling = shortest; ordinal = n })
-        (ap suc (ap (λ (ps : List TreePath). rank ownMeaning (meaning v) (getD ps (r .ordinal - 1) [])) (sym same-paths) ∙ rank-path ownMeaning (meaning v) (r .ordinal - 1) (omega (arith, same-ordinals))) ∙ omega arith)
+        ap (λ (n : ℕ). record { kind = r .kind; spelling = shortest; named = n })
+        (ap suc (ap (λ (ps : List TreePath). rank ownMeaning (meaning v) (getD ps (r .named - 1) [])) (sym same-paths) ∙ rank-path ownMeaning (meaning v) (r .named - 1) (omega (arith, same-ordinals))) ∙ omega arith)
 
 -- ONE CANONICAL TEXT: the same for two plans exactly when their meanings are the same
 pub one-canonical-text : (v w : Value) → Valid v → Valid w → (print (canonical v) ≡ print (canonical w)) ↔ (meaning v ≡ meaning w)

@@ -52,7 +52,7 @@ module _ (to : ℕ → ℕ) where
   mutual
     pub table-ordinals : (v : Value) (o i n : ℕ) → 1 ≤ n → ordinalsOf (table to o i n v) ≡ upFrom n (ordinals own v)
     table-ordinals (leaf x) o i n h = taken-ordinals true (scalarNode o i n x) n (scalar-carries o i n x .ordinal) h
-    table-ordinals (ref r) o i n h = taken-ordinals (own r) (refNode (to (r .ordinal)) i n r) n refl h
+    table-ordinals (ref r) o i n h = taken-ordinals (own r) (refNode (to (r .named)) i n r) n refl h
     table-ordinals (branch b ps) o i n h =
         let e : ℕ = i + suc (nodesIn ps) in
         let o′ : ℕ = pairsOffset o b (count ps) in

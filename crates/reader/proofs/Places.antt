@@ -5,10 +5,11 @@ use Prim.Native.Nat.{ℕ, suc, _+_}
 use native.Mathlib.Omega.{arith}
 use lib.ListN.{length, take, drop}
 use lib.Seq.{take-append-seam}
-use Rattle.reader.specs.Tree.{branch, pair, count, nodes, nodesIn, ordinals}
-use Rattle.reader.specs.Syntax.{Container, Spelling, Quoted, Key, Head, Value, Values, own, writeNumber, writeQuoted, writeKey, writeContainer, write}
+use Rattle.reader.specs.Tree.{leaf, ref, branch, none, pair, count, nodes, nodesIn, ordinals}
+use Rattle.reader.specs.Syntax.{Container, Spelling, Quoted, Key, Head, Value, Values, own, writeNumber, writeQuoted, writeKey, writeScalar, writeContainer, write, writePairs, print}
+use Rattle.reader.specs.Shows.{Begins, Placed, PlacedIn}
 use Rattle.reader.specs.Table.{Node, textOffset, keyNode, branchNode, table, tableIn, pairsOffset, valueOffset, nextOffset}
-use Rattle.reader.proofs.Fronts.{number-front, key-front, container-front, write-front}
+use Rattle.reader.proofs.Fronts.{number-front, scalar-front, key-front, container-front, write-front}
 use Rattle.reader.proofs.Rows.{at-after, at-next, table-length}
 
 -- ---- nodes
@@ -74,3 +75,30 @@ module _ (source : List ℕ) where
 
   pub float-text : (o b : ℕ) (t r : List ℕ) → drop o source ≡ b ∷ 58 ∷ t ++ (59 ∷ r) → take (length t) (drop (o + 2) source) ≡ t
   float-text o b t r e = rw (at-after source o (b ∷ 58 ∷ []) (t ++ (59 ∷ r)) 2 e refl) (take-append-seam t (59 ∷ r))
+
+  -- ---- every part stands where the table counts it
+  begins : (o : ℕ) (t r : List ℕ) → drop o source ≡ t ++ r → Begins source o t
+  begins o t r e = rw e (take-append-seam t r)
+
+  mutual
+    unfolding write
+
+    placed : (v : Value) (o : ℕ) (r : List ℕ) → drop o source ≡ write v r → Placed source o v
+    placed (leaf x) o r e = begins o (writeScalar x []) r (e ∙ scalar-front x [] r)
+    placed (ref n) o r e = begins o (write (ref n) []) r (e ∙ write-front (ref n) [] r)
+    placed (branch h ps) o r e = (
+      begins o (writeContainer (h .container) (writeNumber (h .spelling) (count ps) [])) (58 ∷ 123 ∷ writePairs ps (125 ∷ r)) (e ∙ ap (writeContainer (h .container)) (number-front (h .spelling) (count ps) [] (58 ∷ 123 ∷ writePairs ps (125 ∷ r))) ∙ container-front (h .container) (writeNumber (h .spelling) (count ps) []) (58 ∷ 123 ∷ writePairs ps (125 ∷ r))),
+      placedIn ps (pairsOffset o h (count ps)) (125 ∷ r) (contents-text o h (count ps) (writePairs ps (125 ∷ r)) e),
+    )
+
+    placedIn : (ps : Values) (o : ℕ) (r : List ℕ) → drop o source ≡ writePairs ps r → PlacedIn source o ps
+    placedIn none o r e = tt
+    placedIn (pair k v ps) o r e = (
+      begins o (writeKey k []) (write v (writePairs ps r)) (e ∙ key-front k [] (write v (writePairs ps r))),
+      placed v (valueOffset o k) (writePairs ps r) (value-text o k (write v (writePairs ps r)) e),
+      placedIn ps (nextOffset o k v) r (others-text o k v (writePairs ps r) e),
+    )
+
+-- "offset of the text", "offset of the class name": the positions that they are counted from are where the plan's parts stand
+pub offsets-stand : (v : Value) → Placed (print v) 0 v
+offsets-stand v = placed (print v) v 0 [] refl

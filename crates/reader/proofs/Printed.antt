@@ -75,10 +75,10 @@ float-printed : (l : ℕ) (t r : List ℕ) → T (isFloat t) → floatText l (by
 unfolding floatText
 float-printed l t r h = rw (until-semicolon t r (float-semicolon t h), T-true (isFloat t) h, drop-append-seam t (byte ";" ∷ r))
 
-reference-printed : (l : ℕ) (seen : Seen) (n : Reference) (r : List ℕ) → n .ordinal ≤ numberLimit → 1 ≤ n .ordinal → n .ordinal ≤ seen
-    → referenceText (n .kind) l seen (byte ":" ∷ writeNumber (n .spelling) (n .ordinal) (byte ";" ∷ r)) ≡ ok (n, r)
+reference-printed : (l : ℕ) (seen : Seen) (n : Reference) (r : List ℕ) → n .named ≤ numberLimit → 1 ≤ n .named → n .named ≤ seen
+    → referenceText (n .kind) l seen (byte ":" ∷ writeNumber (n .spelling) (n .named) (byte ";" ∷ r)) ≡ ok (n, r)
 unfolding referenceText
-reference-printed l seen n r f p q = rw (number-printed l (n .spelling) (n .ordinal) (byte ";") r f refl, lt-ltb 0 (n .ordinal) p, le-leb (n .ordinal) seen q)
+reference-printed l seen n r f p q = rw (number-printed l (n .spelling) (n .named) (byte ";") r f refl, lt-ltb 0 (n .named) p, le-leb (n .named) seen q)
 
 -- ---- values and pairs
 
@@ -102,8 +102,8 @@ module _ (set : Setting) where
   scalar-printed d seen before (float t) r b f = rw (lt-ltb before (set .capacity) b, float-printed (position set (writeScalar (float t) r)) t r f)
   scalar-printed d seen before (string q) r b f = rw (lt-ltb before (set .capacity) b, quoted-printed (position set (writeScalar (string q) r)) (byte ";") q r f)
 
-  ref-printed : (k : RefKind) (n : Reference) (d : ℕ) (seen : Seen) (before : ℕ) (r : List ℕ) → n .kind ≡ k → before < set .capacity → n .ordinal ≤ numberLimit → 1 ≤ n .ordinal → n .ordinal ≤ seen
-      → readValue set (suc d) seen before (tag (refKind k) ∷ byte ":" ∷ writeNumber (n .spelling) (n .ordinal) (byte ";" ∷ r)) ≡ ok (ref n, r)
+  ref-printed : (k : RefKind) (n : Reference) (d : ℕ) (seen : Seen) (before : ℕ) (r : List ℕ) → n .kind ≡ k → before < set .capacity → n .named ≤ numberLimit → 1 ≤ n .named → n .named ≤ seen
+      → readValue set (suc d) seen before (tag (refKind k) ∷ byte ":" ∷ writeNumber (n .spelling) (n .named) (byte ";" ∷ r)) ≡ ok (ref n, r)
   unfolding readBody
   ref-printed objectRef n d seen before r e b f p q = rw (lt-ltb before (set .capacity) b, ← e, reference-printed _ seen n r f p q)
   ref-printed variableRef n d seen before r e b f p q = rw (lt-ltb before (set .capacity) b, ← e, reference-printed _ seen n r f p q)

@@ -15,35 +15,28 @@ use Rattle.reader.specs.Syntax.{array, object, Key, Container, RefKind, 
 use Rattle.reader.specs.Keys.{hasKey}
 use Rattle.reader.specs.Limits.{numberLimit, sourceLimit, depthLimit, integerLimit, signOf, isFloat, Seen, unseen, seeBranch, see}
 use Rattle.reader.specs.Answer.{Answer, ok, refused, _>>=_, require}
+use Rattle.reader.specs.Reading.{RefusalRow}
 use Rattle.reader.specs.Read.{kindOf, tagOf, expect, until, digits, number, intText, quotedText, boolText, floatText, referenceText, Setting, setting, position, isArray, keyText, Inner, readKey, readPairs, readBranch, readBody, readValue, read}
 
 module _ (size : ℕ) where
-  -- a row of the table of refusals: 1 at 0; 2 up to the plan's end; 3 to 10 at a byte of the plan
-  pub record RefusalRow (code at : ℕ) : Type 0 where
-    pub least : 1 ≤ code
-    pub most : code ≤ 10
-    pub start : code ≡ 1 → at ≡ 0
-    pub inside : at ≤ size
-    pub byte : 2 < code → at < size
-
   abbrev pub Proper : {A : Type 0} → Answer A → Type 0
   Proper (ok a) = Unit {0}
-  Proper (refused n p) = RefusalRow n p
+  Proper (refused n p) = RefusalRow size n p
 
   bind : {A B : Type 0} (a : Answer A) (f : A → Answer B) → Proper a → ((x : A) → Proper (f x)) → Proper (a >>= f)
   bind (ok x) f h g = g x
   bind (refused n p) f h g = h
 
-  ask : {B : Type 0} (t : Bool) (n p : ℕ) (f : Unit {0} → Answer B) → RefusalRow n p → ((x : Unit {0}) → Proper (f x)) → Proper (require t n p >>= f)
+  ask : {B : Type 0} (t : Bool) (n p : ℕ) (f : Unit {0} → Answer B) → RefusalRow size n p → ((x : Unit {0}) → Proper (f x)) → Proper (require t n p >>= f)
   ask true n p f r g = g tt
   ask false n p f r g = r
 
-  two : (p : ℕ) → p ≤ size → RefusalRow 2 p
+  two : (p : ℕ) → p ≤ size → RefusalRow size 2 p
   two p h = record { least = omega arith; most = omega arith; start = λ e. omega arith; inside = h; byte = λ e. omega arith }
 
   -- behind or at a tag at `l`
   module _ (l : ℕ) (h : l < size) where
-    row : (n : ℕ) → 2 ≤ n → n ≤ 10 → RefusalRow n l
+    row : (n : ℕ) → 2 ≤ n → n ≤ 10 → RefusalRow size n l
     row n a b = record { least = omega arith; most = b; start = λ e. omega arith; inside = omega arith; byte = λ e. h }
 
     expected : (ws s : List ℕ) → Proper (expect l ws s)
@@ -116,15 +109,11 @@ module _ (size : ℕ) where
 
     key-proper : (k : Kind) (s : List ℕ) → Proper (keyText k l s)
     unfolding keyText
-    key-proper Kind.int s = bind (intText l s) _ (int-proper s) (λ a. tt)
-    key-proper Kind.string s = bind (quotedText l (bytes "\";") s) _ (quoted-proper (bytes "\";") s) (λ a. tt)
-    key-proper Kind.null s = row 4 (omega arith) (omega arith)
-    key-proper Kind.bool s = row 4 (omega arith) (omega arith)
-    key-proper Kind.float s = row 4 (omega arith) (omega arith)
-    key-proper Kind.array s = row 4 (omega arith) (omega arith)
-    key-proper Kind.object s = row 4 (omega arith) (omega arith)
-    key-proper Kind.objectReference s = row 4 (omega arith) (omega arith)
-    key-proper Kind.variableReference s = row 4 (omega arith) (omega arith)
+    key-proper k s = go (test (eqb (tag k) (tag Kind.int)))
+      where
+        go : Test (eqb (tag k) (tag Kind.int)) → Proper (keyText k l s)
+        go (passed t) = rw (t, Proper) (bind (intText l s) _ (int-proper s) (λ a. tt))
+        go (failed t) = rw (t, Proper) (bind (quotedText l (bytes "\";") s) _ (quoted-proper (bytes "\";") s) (λ a. tt))
 
 -- ---- values and pairs
 module _ (set : Setting) where

@@ -7,12 +7,13 @@ use native.Mathlib.Omega.{arith}
 use lib.ListN.{length, getD, take, drop, List·getD-map}
 use Rattle.reader.specs.Kind.{Kind, tag}
 use Rattle.reader.specs.Tree.{leaf, ref, branch, none, pair, TreePath, count, nodes, nodesIn, only, one, ordinals, ordinalsIn, paths, pathsIn, mapTree, mapPairs}
-use Rattle.reader.specs.Syntax.{intKey, stringKey, null, bool, int, float, string, array, object, mapContainer, Quoted, Key, Scalar, Container, RefKind, objectRef, variableRef, refKind, Reference, Value, Values, own, writeKey, writeScalar, writeContainer, writeNumber, write, writePairs, print}
-use Rattle.reader.specs.Keys.{keyMeaning}
-use Rattle.reader.specs.Fits.{Valid}
+use Rattle.reader.specs.Syntax.{intKey, stringKey, null, bool, int, float, string, array, object, mapContainer, Literal, Quoted, Key, Scalar, Container, RefKind, objectRef, variableRef, refKind, Reference, Value, Values, own, writeKey, writeScalar, writeContainer, writeNumber, write, writePairs, print}
+use Rattle.reader.specs.Keys.{integer, keyMeaning}
+use Rattle.reader.specs.Fits.{IntFits, KeyFits, ScalarFits, Sound, SoundIn, Valid}
 use Rattle.reader.specs.Meaning.{meaning, scalarMeaning, headMeaning, referenceMeaning}
-use Rattle.reader.specs.Table.{Node, keyNode, scalarNode, branchNode, taken, refNode, table, indices, indicesIn, targetOf, tableOf, pairsOffset, valueOffset, nextOffset}
-use Rattle.reader.specs.Shows.{upFrom, nodeAt, pairAt, follow, Row, WithOrdinal, Text, ShowsKey, ShowsScalar, ShowsHead, Taking, ShowsReference, Shows, ShowsIn}
+use Rattle.reader.specs.Table.{Node, word, keyNode, scalarNode, branchNode, taken, refNode, table, indices, indicesIn, targetOf, tableOf, pairsOffset, valueOffset, nextOffset}
+use Rattle.reader.specs.Shows.{integerOf, Pattern, upFrom, nodeAt, pairAt, follow, Row, WithOrdinal, Text, ShowsKey, ShowsScalar, ShowsHead, Taking, ShowsReference, Shows, ShowsIn}
+use Rattle.reader.proofs.Words.{word-back}
 use Rattle.reader.proofs.Maps.{Refs, RefsIn, refs-map, count-map, nodesIn-map}
 use Rattle.reader.proofs.OneText.{Taken, refs-taken}
 use Rattle.reader.proofs.Rows.{at-first, scalar-carries, branch-carries}
@@ -23,12 +24,12 @@ module _ (rows : List Node) (to : ℕ → ℕ) where
   -- ---- the first node of a value
   abbrev firstNode : (o i n : ℕ) → Value → Node
   firstNode o i n (leaf x) = scalarNode o i n x
-  firstNode o i n (ref r) = refNode (to (r .ordinal)) i n r
+  firstNode o i n (ref r) = refNode (to (r .named)) i n r
   firstNode o i n (branch h ps) = branchNode o n (h .container) (count ps) (i + suc (nodesIn ps))
 
   node-is : (v : Value) (o i n : ℕ) → InTable rows to o i n v → nodeAt rows i ≡ firstNode o i n v
   node-is (leaf x) o i n t = at-first rows i (scalarNode o i n x) (t .rest) _ (t .here)
-  node-is (ref r) o i n t = at-first rows i (refNode (to (r .ordinal)) i n r) (t .rest) _ (t .here)
+  node-is (ref r) o i n t = at-first rows i (refNode (to (r .named)) i n r) (t .rest) _ (t .here)
   node-is (branch h ps) o i n t = at-first rows i (firstNode o i n (branch h ps)) _ _ (t .here)
 
   first-end : (v : Value) (o i n : ℕ) → firstNode o i n v .end ≡ i + nodes v
@@ -107,25 +108,28 @@ module _ (rows : List Node) (to : ℕ → ℕ) where
 
   -- what a reference needs, where `env` gives the paths of the ordinals
   record Resolved (env : List TreePath) (r : Reference) : Type 0 where
-    leads : to (r .ordinal) ≡ follow rows 0 (getD env (r .ordinal - 1) [])
-    carries : ordinalAt (to (r .ordinal)) ≡ r .ordinal
-    least : 1 ≤ r .ordinal
+    leads : to (r .named) ≡ follow rows 0 (getD env (r .named - 1) [])
+    carries : ordinalAt (to (r .named)) ≡ r .named
+    least : 1 ≤ r .named
 
 module _ (source : List ℕ) (rows : List Node) (to : ℕ → ℕ) where
   -- a text at the offset that the node has
   text-shown : (i : ℕ) (x : Node) (t : List ℕ) → nodeAt rows i ≡ x → take (length t) (drop (x .content) source) ≡ t → Text source rows i t
   text-shown i x t e h = ap (λ (j : ℕ). take (length t) (drop j source)) (content-is rows to i x e) ∙ h
 
-  key-shown : (k : Key) (o i : ℕ) (r : List ℕ) → nodeAt rows i ≡ keyNode o i k → drop o source ≡ writeKey k r → ShowsKey source rows i (keyMeaning k)
-  key-shown (intKey x) o i r e s = (row-is rows to i Kind.int _ e refl, ordinal-is rows to i _ e, content-is rows to i _ e)
-  key-shown (stringKey q) o i r e s = (row-is rows to i Kind.string _ e refl, ordinal-is rows to i _ e, text-shown i _ (q .text) e (quoted-text source o 115 q (59 ∷ r) s))
+  int-shown : (i : ℕ) (x : Literal) → nodeAt rows i .content ≡ word (integer x) → IntFits x → Pattern rows i (integer x)
+  int-shown i x e f = (e, ap integerOf e ∙ word-back x f)
 
-  scalar-shown : (x : Scalar) (o i n : ℕ) (r : List ℕ) → nodeAt rows i ≡ scalarNode o i n x → 1 ≤ n → drop o source ≡ writeScalar x r → ShowsScalar source rows i (scalarMeaning x)
-  scalar-shown null o i n r e h s = (row-is rows to i Kind.null _ e refl, with-ordinal rows to i _ e h, content-is rows to i _ e)
-  scalar-shown (bool b) o i n r e h s = (row-is rows to i Kind.bool _ e refl, with-ordinal rows to i _ e h, content-is rows to i _ e)
-  scalar-shown (int x) o i n r e h s = (row-is rows to i Kind.int _ e refl, with-ordinal rows to i _ e h, content-is rows to i _ e)
-  scalar-shown (float t) o i n r e h s = (row-is rows to i Kind.float _ e refl, with-ordinal rows to i _ e h, text-shown i _ t e (float-text source o 100 t r s))
-  scalar-shown (string q) o i n r e h s = (row-is rows to i Kind.string _ e refl, with-ordinal rows to i _ e h, text-shown i _ (q .text) e (quoted-text source o 115 q (59 ∷ r) s))
+  key-shown : (k : Key) (o i : ℕ) (r : List ℕ) → nodeAt rows i ≡ keyNode o i k → KeyFits k → drop o source ≡ writeKey k r → ShowsKey source rows i (keyMeaning k)
+  key-shown (intKey x) o i r e f s = (row-is rows to i Kind.int _ e refl, ordinal-is rows to i _ e, int-shown i x (content-is rows to i _ e) f)
+  key-shown (stringKey q) o i r e f s = (row-is rows to i Kind.string _ e refl, ordinal-is rows to i _ e, text-shown i _ (q .text) e (quoted-text source o 115 q (59 ∷ r) s))
+
+  scalar-shown : (x : Scalar) (o i n : ℕ) (r : List ℕ) → nodeAt rows i ≡ scalarNode o i n x → 1 ≤ n → ScalarFits x → drop o source ≡ writeScalar x r → ShowsScalar source rows i (scalarMeaning x)
+  scalar-shown null o i n r e h f s = (row-is rows to i Kind.null _ e refl, with-ordinal rows to i _ e h, content-is rows to i _ e)
+  scalar-shown (bool b) o i n r e h f s = (row-is rows to i Kind.bool _ e refl, with-ordinal rows to i _ e h, content-is rows to i _ e)
+  scalar-shown (int x) o i n r e h f s = (row-is rows to i Kind.int _ e refl, with-ordinal rows to i _ e h, int-shown i x (content-is rows to i _ e) f)
+  scalar-shown (float t) o i n r e h f s = (row-is rows to i Kind.float _ e refl, with-ordinal rows to i _ e h, text-shown i _ t e (float-text source o 100 t r s))
+  scalar-shown (string q) o i n r e h f s = (row-is rows to i Kind.string _ e refl, with-ordinal rows to i _ e h, text-shown i _ (q .text) e (quoted-text source o 115 q (59 ∷ r) s))
 
   head-shown : (c : Container) (o i n pairs e : ℕ) (r : List ℕ) → nodeAt rows i ≡ branchNode o n c pairs e → 1 ≤ n → drop o source ≡ writeContainer c r
       → ShowsHead source rows i pairs e (mapContainer (λ (q : Quoted). q .text) c)
@@ -134,14 +138,14 @@ module _ (source : List ℕ) (rows : List Node) (to : ℕ → ℕ) where
 
   -- where `env` gives the paths of the ordinals
   module _ (env : List TreePath) where
-    taking : (k : RefKind) (i n : ℕ) → 1 ≤ n → ordinalAt rows to i ≡ taken (own (record { kind = k; spelling = record { zeros = 0 }; ordinal = 0 })) n → Taking rows k i
+    taking : (k : RefKind) (i n : ℕ) → 1 ≤ n → ordinalAt rows to i ≡ taken (own (record { kind = k; spelling = record { zeros = 0 }; named = 0 })) n → Taking rows k i
     taking objectRef i n h e = omega arith
     taking variableRef i n h e = e
 
-    reference-shown : (r : Reference) (i n : ℕ) → nodeAt rows i ≡ refNode (to (r .ordinal)) i n r → 1 ≤ n → Resolved rows to env r → ShowsReference rows i (referenceMeaning env r)
+    reference-shown : (r : Reference) (i n : ℕ) → nodeAt rows i ≡ refNode (to (r .named)) i n r → 1 ≤ n → Resolved rows to env r → ShowsReference rows i (referenceMeaning env r)
     reference-shown r i n e h g =
-        let row = row-is rows to i (refKind (r .kind)) (refNode (to (r .ordinal)) i n r) e refl in
-        let content : nodeAt rows i .content ≡ r .ordinal = content-is rows to i _ e in
+        let row = row-is rows to i (refKind (r .kind)) (refNode (to (r .named)) i n r) e refl in
+        let content : nodeAt rows i .content ≡ r .named = content-is rows to i _ e in
         record {
           row = subst (λ (l : ℕ). Row rows i (refKind (r .kind)) 0 l (suc i)) (g .leads) row;
           taking = taking (r .kind) i n h (ordinal-is rows to i _ e);
@@ -152,28 +156,28 @@ module _ (source : List ℕ) (rows : List Node) (to : ℕ → ℕ) where
     mutual
       unfolding write
 
-      shows : (v : Value) (o i n : ℕ) (r : List ℕ) → InTable rows to o i n v → 1 ≤ n → drop o source ≡ write v r → Refs (Resolved rows to env) v
+      shows : (v : Value) (o i n : ℕ) (r : List ℕ) → InTable rows to o i n v → 1 ≤ n → Sound v → drop o source ≡ write v r → Refs (Resolved rows to env) v
           → Shows source rows i (mapTree keyMeaning scalarMeaning headMeaning (referenceMeaning env) v)
-      shows (leaf x) o i n r t h s g = scalar-shown x o i n r (node-is rows to (leaf x) o i n t) h s
-      shows (ref f) o i n r t h s g = reference-shown f i n (node-is rows to (ref f) o i n t) h g
-      shows (branch b ps) o i n r t h s g = (
+      shows (leaf x) o i n r t h f s g = scalar-shown x o i n r (node-is rows to (leaf x) o i n t) h f s
+      shows (ref x) o i n r t h f s g = reference-shown x i n (node-is rows to (ref x) o i n t) h g
+      shows (branch b ps) o i n r t h f s g = (
         rw (count-map keyMeaning scalarMeaning headMeaning (referenceMeaning env) ps, nodesIn-map keyMeaning scalarMeaning headMeaning (referenceMeaning env) ps)
             (head-shown (b .container) o i n (count ps) (i + suc (nodesIn ps)) (writeNumber (b .spelling) (count ps) (58 ∷ 123 ∷ writePairs ps (125 ∷ r))) (node-is rows to (branch b ps) o i n t) h s),
-        showsIn ps (pairsOffset o b (count ps)) (suc i) (suc i) (suc n) (125 ∷ r) (contents-in rows to o i n b ps t) (omega arith)
+        showsIn ps (pairsOffset o b (count ps)) (suc i) (suc i) (suc n) (125 ∷ r) (contents-in rows to o i n b ps t) (omega arith) (b .container) [] (f .1)
             (contents-text source o b (count ps) (writePairs ps (125 ∷ r)) s) g refl,
       )
 
       -- the index is what the node before says
-      showsIn : (ps : Values) (o i j n : ℕ) (r : List ℕ) → PairsInTable rows to o i n ps → 1 ≤ n → drop o source ≡ writePairs ps r → RefsIn (Resolved rows to env) ps → j ≡ i
+      showsIn : (ps : Values) (o i j n : ℕ) (r : List ℕ) → PairsInTable rows to o i n ps → 1 ≤ n → (c : Container) (earlier : List Key) → SoundIn c earlier ps → drop o source ≡ writePairs ps r → RefsIn (Resolved rows to env) ps → j ≡ i
           → ShowsIn source rows j (mapPairs keyMeaning scalarMeaning headMeaning (referenceMeaning env) ps)
-      showsIn none o i j n r t h s g e = tt
-      showsIn (pair k v ps) o i j n r t h s g e =
-          let f = first-in rows to o i n k v ps t in
-          let next : nodeAt rows (suc i) .end ≡ suc (i + nodes v) = end-is rows to v (valueOffset o k) (suc i) n f ∙ omega arith in
+      showsIn none o i j n r t h c js f s g e = tt
+      showsIn (pair k v ps) o i j n r t h c js f s g e =
+          let w = first-in rows to o i n k v ps t in
+          let next : nodeAt rows (suc i) .end ≡ suc (i + nodes v) = end-is rows to v (valueOffset o k) (suc i) n w ∙ omega arith in
           rw e (
-            key-shown k o i (write v (writePairs ps r)) (at-first rows i (keyNode o i k) _ _ (t .here)) s,
-            shows v (valueOffset o k) (suc i) n (writePairs ps r) f h (value-text source o k (write v (writePairs ps r)) s) (g .0),
-            showsIn ps (nextOffset o k v) (suc (i + nodes v)) (nodeAt rows (suc i) .end) (n + ordinals own v) r (others-in rows to o i n k v ps t) (omega arith) (others-text source o k v (writePairs ps r) s) (g .1) next,
+            key-shown k o i (write v (writePairs ps r)) (at-first rows i (keyNode o i k) _ _ (t .here)) (f .0) s,
+            shows v (valueOffset o k) (suc i) n (writePairs ps r) w h (f .3) (value-text source o k (write v (writePairs ps r)) s) (g .0),
+            showsIn ps (nextOffset o k v) (suc (i + nodes v)) (nodeAt rows (suc i) .end) (n + ordinals own v) r (others-in rows to o i n k v ps t) (omega arith) c (k ∷ js) (f .4) (others-text source o k v (writePairs ps r) s) (g .1) next,
           )
 
 -- ---- the whole table
@@ -195,7 +199,7 @@ module _ (v : Value) where
       ∙ up-at 1 (ordinals own v) k (ordinalAt rows (targetOf v) 0) h ∙ omega arith
 
   resolved : (r : Reference) → Taken (ordinals own v) r → Resolved rows (targetOf v) (paths own v) r
-  resolved r t = record { leads = leads (r .ordinal - 1); carries = carries (r .ordinal - 1) (omega arith) ∙ omega arith; least = t .0 }
+  resolved r t = record { leads = leads (r .named - 1); carries = carries (r .named - 1) (omega arith) ∙ omega arith; least = t .0 }
 
   all-resolved : Valid v → Refs (Resolved rows (targetOf v) (paths own v)) v
   all-resolved f = refs-map (Taken (ordinals own v)) (Resolved rows (targetOf v) (paths own v)) resolved v (refs-taken (ordinals own v) v 0 (f .backward) (omega arith))
@@ -203,7 +207,7 @@ module _ (v : Value) where
 -- Demand 2: "The table then holds its one meaning, each reference resolved."
 pub table-says : (v : Value) → Valid v → Shows (print v) (tableOf v) 0 (meaning v)
 unfolding tableOf meaning
-table-says v f = shows (print v) (tableOf v) (targetOf v) (paths own v) v 0 0 1 [] (whole v) (omega arith) refl (all-resolved v f)
+table-says v f = shows (print v) (tableOf v) (targetOf v) (paths own v) v 0 0 1 [] (whole v) (omega arith) (f .sound) refl (all-resolved v f)
 
 -- the number of the value at a path, in word 1 of its node: the path's place, from 1, among the paths of the values that take one
 pub path-ordinal : (v : Value) (k : ℕ) → k < ordinals own v → nodeAt (tableOf v) (follow (tableOf v) 0 (getD (paths own v) k [])) .ordinal ≡ suc k

@@ -1,7 +1,8 @@
 -- A text that reading accepts is the print of what was read, and in range. Assumes nothing.
 use mathlib.Core.Path.{_≡_, sym, ap, ap₂, _∙_, subst}
-use mathlib.Core.List.{List, [], _∷_, _++_}
-use mathlib.Core.Bool.{Bool, _&&_, _||_}
+use mathlib.Core.Logic.{⊎-elim}
+use mathlib.Core.List.{List, [], _∷_, _++_, List·Memᴰ, List·Memᴰ·head, List·Memᴰ·tail, Memᴰ·cast, List·Memᴰ·cases-cons, List·Memᴰ·eq-of-singleton}
+use mathlib.Core.Bool.{true, false, Bool, _&&_, _||_}
 use Prim.Native.Nat.{ℕ, _-_, _≤_, _<_}
 use native.Mathlib.Omega.{arith}
 use lib.Dec.{T, ltb, leb, eqb, ltb→lt, leb→le, eqb→eq}
@@ -37,13 +38,19 @@ tag-ok js code at (b ∷ s) q e =
     let i : (a .0, s) ≡ q = ok-same (a .2) in
     ap (λ (x : ℕ). x ∷ s) (kind-ok js code at b (a .0) (a .1)) ∙ ap (λ (x : Kind × List ℕ). tag (x .0) ∷ x .1) i
 
-only-kind : (k : Kind) (code at : ℕ) (s : List ℕ) (q : Kind × List ℕ) → tagOf (k ∷ []) code at s ≡ ok q → q .0 ≡ k
-only-kind k code at [] q e = absurd (not-both e)
-only-kind k code at (b ∷ s) q e = go (test (eqb (tag k) b))
+among-ok : (js : List Kind) (code at b : ℕ) (k : Kind) → kindOf js code at b ≡ ok k → List·Memᴰ k js
+among-ok [] code at b k e = absurd (not-both e)
+among-ok (j ∷ js) code at b k e = go (test (eqb (tag j) b)) (λ d. among-ok js code at b k d)
   where
-    go : Test (eqb (tag k) b) → q .0 ≡ k
-    go (passed t) = sym (ap (λ (x : Kind × List ℕ). x .0) (ok-same (rw (t, kindOf) at e)))
-    go (failed t) = absurd (not-both (rw (t, kindOf) at e))
+    go : Test (eqb (tag j) b) → (kindOf js code at b ≡ ok k → List·Memᴰ k js) → List·Memᴰ k (j ∷ js)
+    go (passed t) r = List·Memᴰ·head (sym (ok-same (rw (t, kindOf) at e)))
+    go (failed t) r = List·Memᴰ·tail (r (rw (t, kindOf) at e))
+
+tag-among : (js : List Kind) (code at : ℕ) (s : List ℕ) (q : Kind × List ℕ) → tagOf js code at s ≡ ok q → List·Memᴰ (q .0) js
+tag-among js code at [] q e = absurd (not-both e)
+tag-among js code at (b ∷ s) q e =
+    let a = bind-ok (kindOf js code at b) _ q e in
+    Memᴰ·cast (sym (ap (λ (x : Kind × List ℕ). x .0) (ok-same (a .2)))) (among-ok js code at b (a .0) (a .1))
 
 -- ---- texts
 pub expect-ok : (l : ℕ) (ws s s′ : List ℕ) → expect l ws s ≡ ok s′ → s ≡ ws ++ s′
@@ -171,9 +178,9 @@ float-ok l s q e =
 
 pub record GotReference (k : RefKind) (seen : Seen) (s : List ℕ) (q : Reference × List ℕ) : Type 0 where
   pub text : tag (refKind k) ∷ s ≡ write (ref (q .0)) (q .1)
-  pub fits : q .0 .ordinal ≤ numberLimit
-  pub least : 1 ≤ q .0 .ordinal
-  pub most : q .0 .ordinal ≤ seen
+  pub fits : q .0 .named ≤ numberLimit
+  pub least : 1 ≤ q .0 .named
+  pub most : q .0 .named ≤ seen
 
 pub reference-ok : (k : RefKind) (l : ℕ) (seen : Seen) (s : List ℕ) (q : Reference × List ℕ) → referenceText k l seen s ≡ ok q → GotReference k seen s q
 unfolding referenceText write
@@ -192,27 +199,36 @@ reference-ok k l seen s q e =
       most = leb→le n seen (and-right (ltb 0 n) (leb n seen) t);
     })
 
+-- the kinds that a key's tag may be of
+pub data KeyKind (k : Kind) : Type 0 where
+  is-int : k ≡ Kind.int → KeyKind k
+  is-string : k ≡ Kind.string → KeyKind k
+
+pub key-kind : (c : Container) (l : ℕ) (s : List ℕ) (q : Kind × List ℕ) → tagOf (keyKinds (isArray c)) 4 l s ≡ ok q → KeyKind (q .0)
+key-kind array l s q e = ⊎-elim is-int (λ m. is-string (List·Memᴰ·eq-of-singleton m)) (List·Memᴰ·cases-cons (tag-among (keyKinds true) 4 l s q e))
+key-kind (object t) l s q e = is-string (List·Memᴰ·eq-of-singleton (tag-among (keyKinds false) 4 l s q e))
+
 pub record GotText (k : Kind) (s : List ℕ) (q : Key × List ℕ) : Type 0 where
   pub text : tag k ∷ s ≡ writeKey (q .0) (q .1)
   pub fits : KeyFits (q .0)
 
-pub keyText-ok : (k : Kind) (l : ℕ) (s : List ℕ) (q : Key × List ℕ) → keyText k l s ≡ ok q → GotText k s q
+int-key-ok : (l : ℕ) (s : List ℕ) (q : Key × List ℕ) → keyText Kind.int l s ≡ ok q → GotText Kind.int s q
 unfolding keyText
-keyText-ok Kind.int l s q e =
+int-key-ok l s q e =
     let a = bind-ok (intText l s) _ q e in
     let g = int-ok l s (a .0) (a .1) in
     subst (GotText Kind.int s) (ok-same (a .2)) (record { text = g .text; fits = g .fits })
-keyText-ok Kind.string l s q e =
+
+string-key-ok : (l : ℕ) (s : List ℕ) (q : Key × List ℕ) → keyText Kind.string l s ≡ ok q → GotText Kind.string s q
+unfolding keyText
+string-key-ok l s q e =
     let a = bind-ok (quotedText l (bytes "\";") s) _ q e in
     let g = quoted-ok l (byte ";") s (a .0) (a .1) in
     subst (GotText Kind.string s) (ok-same (a .2)) (record { text = ap {B = List ℕ} (λ x. 115 ∷ x) (g .text); fits = g .fits })
-keyText-ok Kind.null l s q e = absurd (not-both e)
-keyText-ok Kind.bool l s q e = absurd (not-both e)
-keyText-ok Kind.float l s q e = absurd (not-both e)
-keyText-ok Kind.array l s q e = absurd (not-both e)
-keyText-ok Kind.object l s q e = absurd (not-both e)
-keyText-ok Kind.objectReference l s q e = absurd (not-both e)
-keyText-ok Kind.variableReference l s q e = absurd (not-both e)
+
+pub keyText-ok : (k : Kind) (l : ℕ) (s : List ℕ) (q : Key × List ℕ) → KeyKind k → keyText k l s ≡ ok q → GotText k s q
+keyText-ok k l s q (is-int i) e = rw i (int-key-ok l s q (rw i at e))
+keyText-ok k l s q (is-string i) e = rw i (string-key-ok l s q (rw i at e))
 
 string-allowed : (t : Quoted) (k : Key) (r s : List ℕ) → tag Kind.string ∷ s ≡ writeKey k r → T (allowed (object t) k)
 string-allowed t (intKey x) r s e = let z : _≡_ {A = ℕ} (tag Kind.string) (tag Kind.int) = cc in omega arith
@@ -220,4 +236,4 @@ string-allowed t (stringKey q) r s e = tt
 
 pub key-allowed : (c : Container) (l : ℕ) (s : List ℕ) (a : Kind × List ℕ) (k : Key) (r : List ℕ) → tagOf (keyKinds (isArray c)) 4 l s ≡ ok a → tag (a .0) ∷ a .1 ≡ writeKey k r → T (allowed c k)
 key-allowed array l s a k r e f = tt
-key-allowed (object t) l s a k r e f = string-allowed t k r (a .1) (ap (λ (x : Kind). tag x ∷ a .1) (sym (only-kind Kind.string 4 l s a e)) ∙ f)
+key-allowed (object t) l s a k r e f = string-allowed t k r (a .1) (ap (λ (x : Kind). tag x ∷ a .1) (sym (List·Memᴰ·eq-of-singleton (tag-among (keyKinds false) 4 l s a e))) ∙ f)

@@ -6,17 +6,17 @@ use Prim.Native.Nat.{ℕ, _+_}
 use native.Mathlib.Omega.{arith}
 use Rattle.reader.specs.Tree.{nodes}
 use Rattle.reader.specs.Syntax.{Value, print}
-use Rattle.reader.specs.Fits.{Valid, Fits}
+use Rattle.reader.specs.Fits.{Valid, Fits, IsPlan}
 use Rattle.reader.specs.Answer.{Answer, ok, refused}
 use Rattle.reader.specs.Read.{read}
 use Rattle.reader.specs.Meaning.{Meaning, meaning, Means}
 use Rattle.reader.proofs.Answers.{ok-same, not-both}
 use Rattle.reader.proofs.Printed.{read-print}
-use Rattle.reader.proofs.Inversion.{Printed, read-ok}
+use Rattle.reader.proofs.Inversion.{read-ok}
 
 -- Demand 2: "A plan is accepted exactly when it fits paper 01."
-pub accepted-exactly : (capacity : ℕ) (source : List ℕ) (v : Value) → (read capacity source ≡ ok v) ↔ Printed capacity source v
-accepted-exactly capacity source v = (read-ok capacity source v, λ p. ap (read capacity) (p .text) ∙ read-print capacity v (p .fits))
+pub accepted-exactly : (capacity : ℕ) (source : List ℕ) (v : Value) → (read capacity source ≡ ok v) ↔ IsPlan capacity source v
+accepted-exactly capacity source v = (read-ok capacity source v, λ p. ap (read capacity) (p .printed) ∙ read-print capacity v (p .fits))
 
 -- that syntax is the only one
 pub unique : (v w : Value) → Valid v → Valid w → print v ≡ print w → v ≡ w
@@ -32,15 +32,15 @@ one-meaning source m n a b = sym (a .is) ∙ ap meaning (unique (a .syntax) (b .
 pub accepted-means : (capacity : ℕ) (source : List ℕ) (v : Value) → read capacity source ≡ ok v → Means source (meaning v)
 accepted-means capacity source v e =
     let p = read-ok capacity source v e in
-    record { syntax = v; valid = p .fits .valid; printed = p .text; is = refl }
+    record { syntax = v; valid = p .fits .valid; printed = p .printed; is = refl }
 
 -- Demand 1, "Bad input is refused … and never otherwise": a plan that fits is not refused
 pub never-refused : (capacity : ℕ) (v : Value) (n p : ℕ) → Fits capacity v → read capacity (print v) ≡ refused n p → ⊥
 never-refused capacity v n p f e = not-both (sym e ∙ read-print capacity v f)
 
 -- and what is refused fits in no way
-pub refused-unfit : (capacity : ℕ) (source : List ℕ) (n p : ℕ) → read capacity source ≡ refused n p → (v : Value) → Printed capacity source v → ⊥
-refused-unfit capacity source n p e v q = never-refused capacity v n p (q .fits) (ap (read capacity) (sym (q .text)) ∙ e)
+pub refused-unfit : (capacity : ℕ) (source : List ℕ) (n p : ℕ) → read capacity source ≡ refused n p → (v : Value) → IsPlan capacity source v → ⊥
+refused-unfit capacity source n p e v q = never-refused capacity v n p (q .fits) (ap (read capacity) (sym (q .printed)) ∙ e)
 
 -- every plan is accepted or refused
 told : (a : Answer Value) → ((v : Value) × (a ≡ ok v)) ⊎ ((n : ℕ) × (p : ℕ) × (a ≡ refused n p))

@@ -31,7 +31,7 @@ abbrev pub canonicalHead : Head → Head
 canonicalHead h = record { container = mapContainer shortestQuoted (h .container); spelling = shortest }
 
 abbrev pub canonicalReference : Reference → Reference
-canonicalReference r = record { kind = r .kind; spelling = shortest; ordinal = r .ordinal }
+canonicalReference r = record { kind = r .kind; spelling = shortest; named = r .named }
 
 -- the syntax whose print is the canonical text
 unfoldable pub canonical : Value → Value

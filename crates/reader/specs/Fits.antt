@@ -1,4 +1,5 @@
 -- What paper 01 asks of a plan's syntax beyond its form.
+use mathlib.Core.Path.{_≡_}
 use mathlib.Core.List.{List, [], _∷_}
 use mathlib.Core.Bool.{Bool, true, false, not}
 use Prim.Native.Nat.{ℕ, _-_, _≤_}
@@ -51,7 +52,7 @@ abbrev mutual
 abbrev mutual
   pub Limited : Value → Type 0
   Limited (leaf x) = Unit {0}
-  Limited (ref r) = r .ordinal ≤ numberLimit
+  Limited (ref r) = r .named ≤ numberLimit
   Limited (branch h ps) = (count ps ≤ numberLimit) × LimitedIn ps
 
   pub LimitedIn : Values → Type 0
@@ -62,7 +63,7 @@ abbrev mutual
 abbrev mutual
   pub Backward : Seen → Value → Type 0
   Backward seen (leaf x) = Unit {0}
-  Backward seen (ref r) = (1 ≤ r .ordinal) × (r .ordinal ≤ seen)
+  Backward seen (ref r) = (1 ≤ r .named) × (r .named ≤ seen)
   Backward seen (branch h ps) = BackwardIn (seeBranch seen) ps
 
   pub BackwardIn : Seen → Values → Type 0
@@ -92,3 +93,8 @@ pub record Valid (v : Value) : Type 0 where
 pub record Fits (capacity : ℕ) (v : Value) : Type 0 where
   pub valid : Valid v
   pub small : nodes v ≤ capacity
+
+-- the source is the print of a syntax that fits
+pub record IsPlan (capacity : ℕ) (source : List ℕ) (v : Value) : Type 0 where
+  pub printed : source ≡ print v
+  pub fits : Fits capacity v

@@ -5,12 +5,13 @@ use Prim.Native.Nat.{ℕ, _-_}
 use lib.ListN.{getD}
 use Rattle.reader.specs.Tree.{Tree, TreePath, paths, mapTree}
 use Rattle.reader.specs.Syntax.{ScalarOf, ContainerOf, mapScalar, mapContainer, Scalar, Head, RefKind, Reference, Value, own, print}
-use Rattle.reader.specs.Keys.{Integer, integer, KeyMeaning, keyMeaning}
+use lib.IntN.{ℤ}
+use Rattle.reader.specs.Keys.{integer, KeyMeaning, keyMeaning}
 use Rattle.reader.specs.Fits.{Valid}
 
 -- "for b its 0 or 1, for i its integer, for d and s its text"; "A float's meaning here is its text."
 abbrev pub ScalarMeaning : Type 0
-ScalarMeaning = ScalarOf Integer (List ℕ)
+ScalarMeaning = ScalarOf ℤ (List ℕ)
 
 abbrev pub scalarMeaning : Scalar → ScalarMeaning
 scalarMeaning x = mapScalar integer (λ q. q .text) x
@@ -29,7 +30,7 @@ pub record ReferenceMeaning : Type 0 where
 
 -- ordinal t belongs to the path at t - 1
 abbrev pub referenceMeaning : List TreePath → Reference → ReferenceMeaning
-referenceMeaning env r = record { kind = r .kind; names = getD env (r .ordinal - 1) [] }
+referenceMeaning env r = record { kind = r .kind; names = getD env (r .named - 1) [] }
 
 abbrev pub Meaning : Type 0
 Meaning = Tree KeyMeaning ScalarMeaning HeadMeaning ReferenceMeaning

@@ -90,7 +90,7 @@ referenceText k l seen s = do
   ((w, t), s₂) ← number l s₁
   s₃ ← expect l (bytes ";") s₂
   _ ← require (ltb 0 t && leb t seen) 6 l
-  ok (record { kind = k; spelling = w; ordinal = t }, s₃)
+  ok (record { kind = k; spelling = w; named = t }, s₃)
 
 -- ---- values and pairs
 
@@ -110,16 +110,12 @@ abbrev pub isArray : Container → Bool
 isArray array = true
 isArray (object q) = false
 
+-- an i or an s: `readKey` lets no other kind through
 unfoldable pub keyText : Kind → (l : ℕ) → List ℕ → Answer (Key × List ℕ)
-keyText Kind.int l s = intText l s >>= λ (x, s₁). ok (intKey x, s₁)
-keyText Kind.string l s = quotedText l (bytes "\";") s >>= λ (q, s₁). ok (stringKey q, s₁)
-keyText Kind.null l s = refused 4 l
-keyText Kind.bool l s = refused 4 l
-keyText Kind.float l s = refused 4 l
-keyText Kind.array l s = refused 4 l
-keyText Kind.object l s = refused 4 l
-keyText Kind.objectReference l s = refused 4 l
-keyText Kind.variableReference l s = refused 4 l
+keyText k l s = elim (eqb (tag k) (tag Kind.int)) [
+  true ↦ intText l s >>= λ (x, s₁). ok (intKey x, s₁)
+  | false ↦ quotedText l (bytes "\";") s >>= λ (q, s₁). ok (stringKey q, s₁)
+]
 
 -- the reading of a value one level deeper: what is seen, the nodes before it, the bytes left
 abbrev pub Inner : Type 0

@@ -1,6 +1,7 @@
 -- What the service of reading answers, and what it leaves in the lent table.
+use mathlib.Core.Path.{_≡_}
 use mathlib.Core.List.{List, _++_}
-use Prim.Native.Nat.{ℕ, _/_}
+use Prim.Native.Nat.{ℕ, _/_, _≤_, _<_}
 use lib.ListN.{length, drop, replicate}
 use Rattle.reader.specs.Tree.{nodes, ordinals}
 use Rattle.reader.specs.Syntax.{Value, own}
@@ -21,6 +22,14 @@ unfoldable pub answer : (capacity : ℕ) → (source : List ℕ) → Answer Coun
 answer capacity source = do
   v ← read capacity source
   ok (record { nodes = nodes v; ordinals = ordinals own v })
+
+-- what the table of refusals says of a number and its position in a plan of so many bytes: 1 at 0, 2 up to the plan's end, 3 to 10 at a byte
+pub record RefusalRow (size code at : ℕ) : Type 0 where
+  pub least : 1 ≤ code
+  pub most : code ≤ 10
+  pub start : code ≡ 1 → at ≡ 0
+  pub inside : at ≤ size
+  pub byte : 2 < code → at < size
 
 -- "Words after the last node keep what they held."
 abbrev pub over : (words table : List ℕ) → List ℕ

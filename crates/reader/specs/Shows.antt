@@ -1,16 +1,26 @@
 -- How a table is read: what its nodes and the plan's bytes say of a value, by the words that paper 01 lists.
 use mathlib.Core.Path.{_≡_}
 use mathlib.Core.List.{List, [], _∷_}
-use mathlib.Core.Bool.{true, false}
+use mathlib.Core.Bool.{Bool, true, false}
 use Prim.Native.Nat.{ℕ, zero, suc, _+_, _≤_}
 use lib.Dec.{eqb}
+use lib.IntN.{ℤ, pos, negℤ}
+use Rattle.decimal.specs.Complement.{isNegative, magnitude}
 use lib.ListN.{length, getD, take, drop}
 use Rattle.reader.specs.Kind.{Kind, tag}
 use Rattle.reader.specs.Tree.{Pairs, none, pair, leaf, ref, branch, TreePath, count, nodesIn, one}
-use Rattle.reader.specs.Syntax.{intKey, stringKey, null, bool, int, float, string, array, object, RefKind, objectRef, variableRef, refKind}
+use Rattle.reader.specs.Syntax.{intKey, stringKey, null, bool, int, float, string, array, object, RefKind, objectRef, variableRef, refKind, Value, Values, writeNumber, writeKey, writeScalar, writeContainer, write}
 use Rattle.reader.specs.Keys.{KeyMeaning}
 use Rattle.reader.specs.Meaning.{Meaning, ScalarMeaning, HeadMeaning, ReferenceMeaning}
-use Rattle.reader.specs.Table.{Node, word}
+use Rattle.reader.specs.Table.{Node, word, pairsOffset, valueOffset, nextOffset}
+
+-- the integer of a word, read back
+abbrev pub fromSign : (negative : Bool) → (magnitude : ℕ) → ℤ
+fromSign false n = pos n
+fromSign true n = negℤ (pos n)
+
+abbrev pub integerOf : (word : ℕ) → ℤ
+integerOf w = fromSign (isNegative 64 w) (magnitude 64 w)
 
 -- the ordinals taken, in table order: the words 1 that are not 0
 abbrev pub ordinalsOf : List Node → List ℕ
@@ -53,6 +63,10 @@ module _ (rows : List Node) where
   abbrev pub Content : (i content : ℕ) → Type 0
   Content i n = nodeAt i .content ≡ n
 
+  -- an integer's pattern, from which it is read back
+  abbrev pub Pattern : (i : ℕ) → ℤ → Type 0
+  Pattern i n = (nodeAt i .content ≡ word n) × (integerOf (nodeAt i .content) ≡ n)
+
   abbrev pub Taking : RefKind → ℕ → Type 0
   Taking objectRef i = WithOrdinal i
   Taking variableRef i = WithoutOrdinal i
@@ -64,19 +78,35 @@ module _ (rows : List Node) where
     pub named : nodeAt (nodeAt i .link) .ordinal ≡ nodeAt i .content
     pub least : 1 ≤ nodeAt i .content
 
+-- these bytes stand at a position
+abbrev pub Begins : (source : List ℕ) → (o : ℕ) → List ℕ → Type 0
+Begins source o t = take (length t) (drop o source) ≡ t
+
+-- the parts of a syntax stand at the positions that the table's offsets are counted from
+module _ (source : List ℕ) where
+  abbrev mutual
+    pub Placed : (o : ℕ) → Value → Type 0
+    Placed o (leaf x) = Begins source o (writeScalar x [])
+    Placed o (ref r) = Begins source o (write (ref r) [])
+    Placed o (branch h ps) = Begins source o (writeContainer (h .container) (writeNumber (h .spelling) (count ps) [])) × PlacedIn (pairsOffset o h (count ps)) ps
+
+    pub PlacedIn : (o : ℕ) → Values → Type 0
+    PlacedIn o none = Unit {0}
+    PlacedIn o (pair k v ps) = Begins source o (writeKey k []) × Placed (valueOffset o k) v × PlacedIn (nextOffset o k v) ps
+
 module _ (source : List ℕ) (rows : List Node) where
   -- word 2 as the offset of a text
   abbrev pub Text : (i : ℕ) → List ℕ → Type 0
-  Text i t = take (length t) (drop (nodeAt rows i .content) source) ≡ t
+  Text i t = Begins source (nodeAt rows i .content) t
 
   abbrev pub ShowsKey : (i : ℕ) → KeyMeaning → Type 0
-  ShowsKey i (intKey n) = Row rows i Kind.int 0 0 (suc i) × WithoutOrdinal rows i × Content rows i (word n)
+  ShowsKey i (intKey n) = Row rows i Kind.int 0 0 (suc i) × WithoutOrdinal rows i × Pattern rows i n
   ShowsKey i (stringKey t) = Row rows i Kind.string (length t) 0 (suc i) × WithoutOrdinal rows i × Text i t
 
   abbrev pub ShowsScalar : (i : ℕ) → ScalarMeaning → Type 0
   ShowsScalar i null = Row rows i Kind.null 0 0 (suc i) × WithOrdinal rows i × Content rows i 0
   ShowsScalar i (bool b) = Row rows i Kind.bool 0 0 (suc i) × WithOrdinal rows i × Content rows i (one b)
-  ShowsScalar i (int n) = Row rows i Kind.int 0 0 (suc i) × WithOrdinal rows i × Content rows i (word n)
+  ShowsScalar i (int n) = Row rows i Kind.int 0 0 (suc i) × WithOrdinal rows i × Pattern rows i n
   ShowsScalar i (float t) = Row rows i Kind.float (length t) 0 (suc i) × WithOrdinal rows i × Text i t
   ShowsScalar i (string t) = Row rows i Kind.string (length t) 0 (suc i) × WithOrdinal rows i × Text i t
 

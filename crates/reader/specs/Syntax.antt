@@ -81,7 +81,7 @@ pub data RefKind : Type 0 where
 pub record Reference : Type 0 where
   pub kind : RefKind
   pub spelling : Spelling
-  pub ordinal : ℕ
+  pub named : ℕ
 
 abbrev pub Value : Type 0
 Value = Tree Key Scalar Head Reference
@@ -143,7 +143,7 @@ writeContainer (object q) r = tag Kind.object ∷ byte ":" ∷ writeQuoted q (by
 unfoldable mutual
   pub write : Value → List ℕ → List ℕ
   write (leaf x) r = writeScalar x r
-  write (ref n) r = tag (refKind (n .kind)) ∷ byte ":" ∷ writeNumber (n .spelling) (n .ordinal) (byte ";" ∷ r)
+  write (ref n) r = tag (refKind (n .kind)) ∷ byte ":" ∷ writeNumber (n .spelling) (n .named) (byte ";" ∷ r)
   write (branch h ps) r = writeContainer (h .container) (writeNumber (h .spelling) (count ps) (byte ":" ∷ byte "{" ∷ writePairs ps (byte "}" ∷ r)))
 
   pub writePairs : Values → List ℕ → List ℕ

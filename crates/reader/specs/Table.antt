@@ -6,7 +6,8 @@ use lib.ListN.{length, getD}
 use Rattle.decimal.specs.Complement.{pattern}
 use Rattle.reader.specs.Kind.{Kind, tag, hasText}
 use Rattle.reader.specs.Tree.{leaf, ref, branch, none, pair, count, nodes, nodesIn, ordinals, one, only}
-use Rattle.reader.specs.Keys.{Integer, nonneg, negsuc, integer}
+use lib.IntN.{ℤ, pos, negsuc}
+use Rattle.reader.specs.Keys.{integer}
 use Rattle.reader.specs.Syntax.{intKey, stringKey, null, bool, int, float, string, array, object, Quoted, Key, Scalar, Container, Head, refKind, Reference, Value, Values, own, write, writeKey, writeNumber, writeContainer}
 
 pub record Node : Type 0 where
@@ -35,8 +36,8 @@ flat [] = []
 flat (n ∷ ns) = words n ++ flat ns
 
 -- "i: the integer's two's complement pattern"
-abbrev pub word : Integer → ℕ
-word (nonneg n) = pattern 64 false n
+abbrev pub word : ℤ → ℕ
+word (pos n) = pattern 64 false n
 word (negsuc n) = pattern 64 true (suc n)
 
 -- where a quoted text begins behind a tag at `o`: tag, colon, length, colon, quote
@@ -69,7 +70,7 @@ taken true n = n
 taken false n = 0
 
 abbrev pub refNode : (target i n : ℕ) → Reference → Node
-refNode target i n r = record { tag = tag (refKind (r .kind)); ordinal = taken (own r) n; content = r .ordinal; size = 0; link = target; end = suc i }
+refNode target i n r = record { tag = tag (refKind (r .kind)); ordinal = taken (own r) n; content = r .named; size = 0; link = target; end = suc i }
 
 -- where the first pair of a container begins, what follows a key, and what follows a pair; the tag or the key stands at `o`
 abbrev pub pairsOffset : (o : ℕ) → Head → (pairs : ℕ) → ℕ
@@ -86,7 +87,7 @@ module _ (to : ℕ → ℕ) where
   abbrev mutual
     pub table : (o i n : ℕ) → Value → List Node
     table o i n (leaf x) = scalarNode o i n x ∷ []
-    table o i n (ref r) = refNode (to (r .ordinal)) i n r ∷ []
+    table o i n (ref r) = refNode (to (r .named)) i n r ∷ []
     table o i n (branch h ps) = branchNode o n (h .container) (count ps) (i + suc (nodesIn ps))
         ∷ tableIn (pairsOffset o h (count ps)) (suc i) (suc n) ps
 
