@@ -209,7 +209,7 @@ pub spelled-some : (z n : ℕ) → 0 < length (spelled z n)
 spelled-some z n = omega (arith, spelled-length z n, decimal-some n)
 
 -- so no run of the same value is shorter
-pub shortest : (bs : List ℕ) → 0 < length bs → T (areDigits bs) → length (decimal (value bs)) ≤ length bs
-shortest bs h t =
+pub no-shorter : (bs : List ℕ) → 0 < length bs → T (areDigits bs) → length (decimal (value bs)) ≤ length bs
+no-shorter bs h t =
     let s = spelling bs h t in
     omega (arith, ap length (s .1), spelled-length (s .0) (value bs))

@@ -1,13 +1,14 @@
 -- Laws of runs of stores, and of the digits stored. Assumes nothing.
-use Prim.Native.Nat.{ℕ, suc, _+_, _≤_, _<_, _/_, _%_}
+use Prim.Native.Nat.{ℕ, suc, _+_, _≤_, _<_, _/_, _%_, _^_}
 use native.Mathlib.Nat.{add-zero, add-suc, suc-add}
+use native.Mathlib.Omega.{arith}
 use mathlib.Core.Path.{_≡_, sym, ap, _∙_}
 use mathlib.Core.List.{List, [], _∷_, _++_}
 use lib.ListN.{length, set, length-append}
 use lib.Seq.{sets}
 use Rattle.decimal.specs.Digits.{decimal}
 use Rattle.decimal.specs.Promise.{Stored}
-use Rattle.decimal.proofs.Numerals.{decimal-small, decimal-large}
+use Rattle.decimal.proofs.Numerals.{decimal-small, decimal-large, decimal-length}
 
 -- a run of stores and the run after it are one run
 pub sets-append : (a b l : List ℕ) (i j : ℕ) → j ≡ i + length a → sets (sets l i a) j b ≡ sets l i (a ++ b)
@@ -19,6 +20,10 @@ stored-small before after at n h e = record {
   length = sym (ap length (decimal-small n h));
   output = e ∙ ap (λ (i : ℕ). set before i (48 + n)) (add-zero at) ∙ ap (λ (l : List ℕ). sets before at l) (sym (decimal-small n h));
 }
+
+-- the count of digits stored, of a number of at most 20
+pub stored-short : {before after : List ℕ} {at n written : ℕ} → Stored before at n written after → n < 10 ^ 20 → written ≤ 20
+stored-short {n = n} s h = omega (arith, s .length, decimal-length 19 n h)
 
 pub stored-large : (before high after : List ℕ) (at n written : ℕ) → 10 ≤ n → Stored before at (n / 10) written high → after ≡ set high (at + written) (48 + n % 10)
     → Stored before at n (written + 1) after

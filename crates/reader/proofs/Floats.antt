@@ -101,6 +101,7 @@ none-fraction (b ∷ s) h = go (test (eqb (byte ".") b))
 none-decimal : (s : List ℕ) → T (isDecimal s) → T (noSemicolon s)
 none-decimal s h = none-run s (none-fraction (afterDigits s) (and-right (ltb 0 (length (digitsOf s) + length (fractionOf (afterDigits s) .0))) (isExponent (fractionOf (afterDigits s) .1)) h))
 
+-- NO FLOAT TEXT HOLDS A `;`
 pub float-semicolon : (t : List ℕ) → T (isFloat t) → T (noSemicolon t)
 unfolding isFloat
 float-semicolon t h =

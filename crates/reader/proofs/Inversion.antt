@@ -12,7 +12,7 @@ use Rattle.reader.specs.Tree.{leaf, ref, count, nodes, nodesIn}
 use Rattle.reader.specs.Syntax.{null, bool, int, float, string, array, object, Spelling, Key, Scalar, Container, RefKind, objectRef, variableRef, refKind, Value, Values, writeNumber, writeKey, writeScalar, writeContainer, write, writePairs, print}
 use Rattle.reader.specs.Keys.{hasKey}
 use Rattle.reader.specs.Limits.{sourceLimit, depthLimit, Seen, unseen, seeBranch, see}
-use Rattle.reader.specs.Fits.{KeyFits, ScalarFits, ContainerFits, allowed, Sound, SoundIn, Limited, LimitedIn, Backward, BackwardIn, Shallow, ShallowIn, Fits, IsPlan}
+use Rattle.reader.specs.Fits.{KeyFits, ScalarFits, ContainerFits, allowed, Sound, SoundIn, Limited, LimitedIn, Backward, BackwardIn, Shallow, ShallowIn, IsPlan}
 use Rattle.reader.specs.Answer.{ok, _>>=_, require}
 use Rattle.reader.specs.Read.{tagOf, expect, number, intText, quotedText, boolText, floatText, referenceText, Setting, setting, position, isArray, keyText, Inner, readKey, readPairs, readBranch, readBody, readValue, read}
 use Rattle.reader.proofs.Answers.{ok-same, not-both, bind-ok, require-ok}

@@ -18,4 +18,4 @@ pub mod OneText
 pub mod NormalTable
 pub mod Words
 pub mod Tables
-pub mod Outcome
+pub mod Results

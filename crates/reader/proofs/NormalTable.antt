@@ -7,7 +7,6 @@ use Rattle.reader.specs.Kind.{Kind}
 use Rattle.reader.specs.Tree.{leaf, ref, branch, none, pair, count, nodes, nodesIn, ordinals}
 use Rattle.reader.specs.Syntax.{intKey, stringKey, null, bool, int, float, string, array, object, mapContainer, Key, Scalar, Container, Value, Values, own}
 use lib.IntN.{ℤ}
-
 use Rattle.reader.specs.Table.{Node, word, single, keyNode, scalarNode, branchNode, table, tableIn, indices, indicesIn, targetOf, tableOf, withoutOffset, pairsOffset, valueOffset, nextOffset}
 use Rattle.reader.specs.Canonical.{shortestQuoted, canonicalKey, canonicalScalar, canonicalHead, canonicalReference, canonical}
 use Rattle.reader.proofs.Maps.{nodesIn-map}

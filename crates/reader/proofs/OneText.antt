@@ -112,7 +112,7 @@ module _ {K L H R : Type 0} (own : R → Bool) where
 abbrev headOf : HeadMeaning → Head
 headOf h = record { container = mapContainer quotedOf h; spelling = shortest }
 
-abbrev ownMeaning : ReferenceMeaning → Bool
+abbrev pub ownMeaning : ReferenceMeaning → Bool
 ownMeaning r = hasOrdinal (tag (refKind (r .kind)))
 
 -- the ordinal of the value that is named is one more than its path's rank
@@ -136,6 +136,15 @@ mutual
   refs-taken-in top none seen b h = tt
   refs-taken-in top (pair k v ps) seen b h = (refs-taken top v seen (b .0) (omega arith), refs-taken-in top ps (seen + ordinals own v) (b .1) (omega arith))
 
+-- the meaning has the numbering of the syntax
+pub meaning-paths : (v : Value) → paths ownMeaning (meaning v) ≡ paths own v
+unfolding meaning
+meaning-paths v = paths-map keyMeaning scalarMeaning headMeaning (referenceMeaning (paths own v)) own ownMeaning (λ r. refl) v
+
+pub meaning-ordinals : (v : Value) → ordinals ownMeaning (meaning v) ≡ ordinals own v
+unfolding meaning
+meaning-ordinals v = ordinals-map keyMeaning scalarMeaning headMeaning (referenceMeaning (paths own v)) own ownMeaning (λ r. refl) v
+
 -- CANONICAL TEXT IS A FUNCTION OF THE MEANING
 pub canonical-of-meaning : (v : Value) → Valid v → canonicalOf (meaning v) ≡ canonical v
 unfolding canonicalOf meaning canonical
@@ -145,16 +154,10 @@ canonical-of-meaning v f =
     (key-map integer textOf literalOf quotedOf shortestInt shortestQuoted literal-shortest (λ q. refl)) (scalar-map integer textOf literalOf quotedOf shortestInt shortestQuoted literal-shortest (λ q. refl))
     (λ h. ap (λ (c : Container). record { container = c; spelling = shortest }) (container-map textOf quotedOf shortestQuoted (λ q. refl) (h .container))) reference-of v (refs-taken (ordinals own v) v 0 (f .backward) (omega arith))
   where
-    same-paths : paths ownMeaning (meaning v) ≡ paths own v
-    same-paths = paths-map keyMeaning scalarMeaning headMeaning (referenceMeaning (paths own v)) own ownMeaning (λ r. refl) v
-
-    same-ordinals : ordinals ownMeaning (meaning v) ≡ ordinals own v
-    same-ordinals = ordinals-map keyMeaning scalarMeaning headMeaning (referenceMeaning (paths own v)) own ownMeaning (λ r. refl) v
-
     reference-of : (r : Reference) → Taken (ordinals own v) r → referenceOf (meaning v) (referenceMeaning (paths own v) r) ≡ canonicalReference r
     reference-of r t =
         ap (λ (n : ℕ). record { kind = r .kind; spelling = shortest; named = n })
-        (ap suc (ap (λ (ps : List TreePath). rank ownMeaning (meaning v) (getD ps (r .named - 1) [])) (sym same-paths) ∙ rank-path ownMeaning (meaning v) (r .named - 1) (omega (arith, same-ordinals))) ∙ omega arith)
+        (ap suc (ap (λ (ps : List TreePath). rank ownMeaning (meaning v) (getD ps (r .named - 1) [])) (sym (meaning-paths v)) ∙ rank-path ownMeaning (meaning v) (r .named - 1) (omega (arith, meaning-ordinals v))) ∙ omega arith)
 
 -- ONE CANONICAL TEXT: the same for two plans exactly when their meanings are the same
 pub one-canonical-text : (v w : Value) → Valid v → Valid w → (print (canonical v) ≡ print (canonical w)) ↔ (meaning v ≡ meaning w)

@@ -6,7 +6,7 @@ use mathlib.Core.List.{List, [], _∷_}
 use Prim.Native.Nat.{ℕ}
 use lib.Dec.{eqb}
 use borrow.Author.Tests.{eq-eqb, ne-eqb}
-use Rattle.reader.specs.Kind.{Kind, tag, isTagOf}
+use Rattle.reader.specs.Kind.{Kind, kinds, tag, isTagOf}
 
 -- one of the alternatives of a match arm, in the order of the list
 abbrev pub AnyOf : List Kind → ℕ → Type 0
@@ -32,3 +32,26 @@ pub none-of : (ks : List Kind) (b : ℕ) → (AnyOf ks b → ⊥) → false ≡ 
 none-of [] b n = refl
 none-of (k ∷ []) b n = first-not k [] b n
 none-of (k ∷ (j ∷ ks)) b n = none-of (j ∷ ks) b (λ r. n (inr r)) ∙ first-not k (j ∷ ks) b (λ e. n (inl e))
+
+-- a fact for each kind
+pub each : (P : Kind → Type 0) → P Kind.null → P Kind.bool → P Kind.int → P Kind.float → P Kind.string → P Kind.array → P Kind.object → P Kind.objectReference → P Kind.variableReference → (k : Kind) → P k
+each P a b c d e f g h i Kind.null = a
+each P a b c d e f g h i Kind.bool = b
+each P a b c d e f g h i Kind.int = c
+each P a b c d e f g h i Kind.float = d
+each P a b c d e f g h i Kind.string = e
+each P a b c d e f g h i Kind.array = f
+each P a b c d e f g h i Kind.object = g
+each P a b c d e f g h i Kind.objectReference = h
+each P a b c d e f g h i Kind.variableReference = i
+
+-- the tag of a kind is known, and no other byte is
+pub known : (k : Kind) (b : ℕ) → b ≡ tag k → true ≡ isTagOf kinds b
+known k b e = rw e (each (λ j. true ≡ isTagOf kinds (tag j)) refl refl refl refl refl refl refl refl refl k)
+
+pub unknown : (b : ℕ) → ((k : Kind) → b ≡ tag k → ⊥) → false ≡ isTagOf kinds b
+unknown b n = go kinds
+  where
+    go : (ks : List Kind) → false ≡ isTagOf ks b
+    go [] = refl
+    go (k ∷ ks) = go ks ∙ first-not k ks b (n k)

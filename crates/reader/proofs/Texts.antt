@@ -14,7 +14,7 @@ use Rattle.decimal.proofs.Numerals.{digits-are, digits-split, spelling, spelled
 use Rattle.reader.specs.Bytes.{byte, bytes, sameBytes}
 use Rattle.reader.specs.Kind.{Kind, tag, keyKinds}
 use Rattle.reader.specs.Tree.{ref}
-use Rattle.reader.specs.Syntax.{intKey, stringKey, null, bool, int, float, string, array, object, Spelling, Sign, Literal, Quoted, Key, Container, RefKind, refKind, Reference, writeNumber, writeSign, writeQuoted, writeInt, writeKey, bit, write}
+use Rattle.reader.specs.Syntax.{intKey, stringKey, int, string, array, object, Spelling, Sign, Literal, Quoted, Key, Container, RefKind, refKind, Reference, writeNumber, writeSign, writeQuoted, writeInt, writeKey, bit, write}
 use Rattle.reader.specs.Limits.{numberLimit, integerLimit, signOf, isFloat, Seen}
 use Rattle.reader.specs.Fits.{IntFits, QuotedFits, KeyFits, allowed}
 use Rattle.reader.specs.Answer.{ok, require}

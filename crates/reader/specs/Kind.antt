@@ -28,7 +28,7 @@ abbrev pub isTagOf : List Kind → ℕ → Bool
 isTagOf [] b = false
 isTagOf (k ∷ more) b = eqb b (tag k) || isTagOf more b
 
--- "Each value takes the next number … Two things take none: keys, and every R. An r does take one.": of a value's tag
+-- "Each value takes the next number … Two things take none: keys, and every R. An r does take one.": asked of a value's tag only
 abbrev pub hasOrdinal : ℕ → Bool
 hasOrdinal b = not (isTagOf (variableReference ∷ []) b)
 

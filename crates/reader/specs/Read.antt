@@ -113,7 +113,7 @@ isArray (object q) = false
 -- an i or an s: `readKey` lets no other kind through
 unfoldable pub keyText : Kind → (l : ℕ) → List ℕ → Answer (Key × List ℕ)
 keyText k l s = elim (eqb (tag k) (tag Kind.int)) [
-  true ↦ intText l s >>= λ (x, s₁). ok (intKey x, s₁)
+  | true ↦ intText l s >>= λ (x, s₁). ok (intKey x, s₁)
   | false ↦ quotedText l (bytes "\";") s >>= λ (q, s₁). ok (stringKey q, s₁)
 ]
 

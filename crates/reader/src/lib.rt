@@ -1,2 +1,2 @@
-// Reading of PHP-serialized values: any bytes to the node table, or to the one right refusal.
+// The format of PHP-serialized values. (Reading itself comes next.)
 pub mod kind;

@@ -1,9 +1,8 @@
 -- `decimal::write_decimal` meets its contract. The measure is the number, which is divided by ten. Assumes nothing.
 use borrow.Author.Needs.{needs}
 use native.Mathlib.Omega.{arith}
-use Rattle.decimal.proofs.Numerals.{decimal-length}
-use Rattle.decimal.proofs.Stores.{stored-small, stored-large}
-use Prim.Native.Nat.{ℕ, _<_, _/_}
+use Rattle.decimal.proofs.Stores.{stored-small, stored-short, stored-large}
+use Prim.Native.Nat.{ℕ, _<_}
 use borrow.Fn.Kinds.{In}
 use borrow.Fn.PlainCycle.{Measures, is, falls, and}
 use Rattle.decimal.proofs.write_decimal.Reads as write-decimal
@@ -46,6 +45,6 @@ pub +write-decimal-spec : {M : Type 1} → statement M
     (λ c. search needs)
     (λ c. search needs)
     (λ c κs. tt)
-    (λ c. omega (arith, c .before .before .before .before .before .before .write-decimal .ensures .length, decimal-length 19 (c .before .before .before .before .before .before .before .before .before .before .args .n / 10) (omega arith)))
+    (λ c. omega (arith, stored-short (c .before .before .before .before .before .before .write-decimal .ensures) (omega arith)))
     (λ c. search needs)
     (λ c. stored-large _ _ _ _ _ _ (c .before .before .before .before .before .before .before .before .if1 .left) (c .before .before .before .before .before .before .write-decimal .ensures) (c .before .before .put2 .ensures))
