@@ -1,15 +1,22 @@
 -- The worked cases of paper 01 hold of the definitions: computed by the checker. Assumes nothing.
-use mathlib.Core.Bool.{_&&_}
 use lib.Dec.{T}
-use Rattle.decimal.specs.Digits.{decimal, decimalIn}
-use Rattle.reader.specs.Syntax.{write}
-use Rattle.reader.specs.Limits.{isFloat}
-use Rattle.reader.specs.Read.{digits, number, intText, quotedText, boolText, floatText, referenceText, keyText, readKey, readBranch, readBody, read}
-use Rattle.reader.specs.Table.{tableOf}
-use Rattle.reader.specs.Canonical.{canonical}
-use Rattle.reader.specs.Cases.{shown, hold, starred, unstarred, edges}
+use Rattle.reader.specs.Cases.{hold, starred, unstarred, edges, large}
 
--- THE STARRED CASES, the others of that section, and what stands on either side of a limit
-pub worked : T (hold starred && hold unstarred && hold edges)
-unfolding hold shown tableOf canonical read readBody readBranch readKey keyText digits number intText quotedText boolText floatText referenceText isFloat decimal decimalIn write
-worked = tt
+-- THE STARRED CASES
+pub starred-hold : T (hold starred)
+unfolding hold
+starred-hold = tt
+
+-- the others of that section
+pub unstarred-hold : T (hold unstarred)
+unfolding hold
+unstarred-hold = tt
+
+-- what stands on either side of a limit, and of the order of refusals
+pub edges-hold : T (hold edges)
+unfolding hold
+edges-hold = tt
+
+pub large-hold : T (hold large)
+unfolding hold
+large-hold = tt

@@ -1,14 +1,16 @@
 -- "Plans on either side": what worked cases show of the definitions.
 use mathlib.Core.List.{List, [], _∷_, _++_}
 use mathlib.Core.Bool.{Bool, true, false, _&&_}
-use Prim.Native.Nat.{ℕ, zero, suc}
+use Prim.Native.Nat.{ℕ, zero, suc, _-_}
 use lib.Dec.{eqb}
+use Rattle.decimal.specs.Digits.{decimal, decimalIn}
 use lib.ListN.{replicate}
 use Rattle.reader.specs.Bytes.{byte, bytes, sameBytes}
 use Rattle.reader.specs.Tree.{nodes, ordinals}
-use Rattle.reader.specs.Syntax.{Value, own, print}
+use Rattle.reader.specs.Syntax.{Value, own, write, print}
+use Rattle.reader.specs.Limits.{isFloat}
 use Rattle.reader.specs.Answer.{Answer, ok, refused}
-use Rattle.reader.specs.Read.{read}
+use Rattle.reader.specs.Read.{digits, number, intText, quotedText, boolText, floatText, referenceText, keyText, readKey, readBranch, readBody, read}
 use Rattle.reader.specs.Table.{flat, tableOf}
 use Rattle.reader.specs.Shows.{nodeAt}
 use Rattle.reader.specs.Canonical.{canonical}
@@ -46,7 +48,9 @@ shown (resolves i j) (refused n p) = false
 shown (canonicalText t) (ok v) = sameBytes t (print (canonical v))
 shown (canonicalText t) (refused n p) = false
 
+-- every case of a table, with all that it takes to compute it open
 unfoldable pub hold : List Case → Bool
+unfolding shown tableOf canonical read readBody readBranch readKey keyText digits number intText quotedText boolText floatText referenceText isFloat decimal decimalIn write
 hold [] = true
 hold (c ∷ cs) = shown (c .outcome) (read (c .capacity) (c .source)) && hold cs
 
@@ -70,13 +74,7 @@ starred =
     ∷ (bytes "a:4:{i:0;i:7;i:1;r:2;i:2;i:9;i:3;R:3;}" ⇒ resolves 8 4)
     ∷ []
 
--- so many arrays, each in the one before
-abbrev pub nested : ℕ → List ℕ
-nested zero = []
-nested (suc zero) = bytes "a:0:{}"
-nested (suc (suc n)) = bytes "a:1:{i:0;" ++ (nested (suc n) ++ bytes "}")
-
--- the rest of that section, and its worked tables
+-- the rest of that section but for depth, and its worked tables
 abbrev pub unstarred : List Case
 unstarred =
     (bytes "a:1:{i:0;N;}" ⇒ table (97 ∷ 1 ∷ 0 ∷ 0 ∷ 1 ∷ 3 ∷ 105 ∷ 0 ∷ 0 ∷ 0 ∷ 0 ∷ 2 ∷ 78 ∷ 2 ∷ 0 ∷ 0 ∷ 0 ∷ 3 ∷ []))
@@ -93,16 +91,12 @@ unstarred =
     ∷ (bytes "O:3:\"Day\":4:{s:3:\"air\";i:40;s:4:\"self\";r:1;s:4:\"open\";b:1;s:4:\"copy\";R:4;}" ⇒ accepted 9 4)
     ∷ (bytes "O:3:\"Day\":4:{s:3:\"air\";i:40;s:4:\"self\";r:1;s:4:\"open\";b:1;s:4:\"copy\";R:4;}" ⇒ resolves 4 0)
     ∷ (bytes "O:3:\"Day\":4:{s:3:\"air\";i:40;s:4:\"self\";r:1;s:4:\"open\";b:1;s:4:\"copy\";R:4;}" ⇒ resolves 8 6)
-    ∷ (nested 64 ⇒ accepted 127 64)
-    ∷ (nested 65 ⇒ refusal 8 576)
     ∷ []
 
 -- limits, positions and the order of refusals where those leave them open (docs/DECISIONS.md has the readings)
 abbrev pub edges : List Case
 edges =
-    (replicate 65537 (byte "N") ⇒ refusal 1 0)
-    ∷ (bytes "i:" ++ (replicate 65533 (byte "0") ++ bytes ";") ⇒ accepted 1 1)
-    ∷ (bytes "i:-9223372036854775808;" ⇒ table (105 ∷ 1 ∷ 9223372036854775808 ∷ 0 ∷ 0 ∷ 1 ∷ []))
+    (bytes "i:-9223372036854775808;" ⇒ table (105 ∷ 1 ∷ 9223372036854775808 ∷ 0 ∷ 0 ∷ 1 ∷ []))
     ∷ (bytes "i:-9223372036854775809;" ⇒ refusal 5 0)
     ∷ (bytes "i:+9223372036854775808;" ⇒ refusal 5 0)
     ∷ (bytes "a:1:{i:0;s:65537" ⇒ refusal 5 9)
@@ -117,6 +111,14 @@ edges =
     ∷ (bytes "a:2:{i:0;N;i:0" ⇒ refusal 2 11)
     ∷ (bytes "a:2:{i:0;N;i:-0;x" ⇒ refusal 9 11)
     ∷ (bytes "b:01;" ⇒ refusal 2 0)
+    ∷ (bytes "b:0;" ⇒ table (98 ∷ 1 ∷ 0 ∷ 0 ∷ 0 ∷ 1 ∷ []))
+    ∷ (bytes "b:1;" ⇒ table (98 ∷ 1 ∷ 1 ∷ 0 ∷ 0 ∷ 1 ∷ []))
+    ∷ (bytes "i:;" ⇒ refusal 2 0)
+    ∷ (bytes "s:9:\"ab\";" ⇒ refusal 2 0)
+    ∷ (bytes "d:INF;" ⇒ accepted 1 1)
+    ∷ (bytes "d:-INF;" ⇒ accepted 1 1)
+    ∷ (bytes "d:NAN;" ⇒ accepted 1 1)
+    ∷ (bytes "d:1e5;" ⇒ accepted 1 1)
     ∷ (bytes "d:+INF;" ⇒ refusal 2 0)
     ∷ (bytes "d:-.5E+07;" ⇒ table (100 ∷ 1 ∷ 2 ∷ 7 ∷ 0 ∷ 1 ∷ []))
     ∷ (bytes "d:1e;" ⇒ refusal 2 0)
@@ -130,6 +132,27 @@ edges =
     ∷ within 1 (bytes "a:1:{i:0;N;}" ⇒ refusal 7 5)
     ∷ within 2 (bytes "a:1:{i:0;N;}" ⇒ refusal 7 9)
     ∷ within 3 (bytes "a:1:{i:0;N;}" ⇒ accepted 3 2)
+    ∷ within 3 (bytes "a:2:{i:0;N;i:1;R:2;}" ⇒ refusal 7 11)
+    ∷ within 4 (bytes "a:2:{i:0;N;i:1;R:2;}" ⇒ refusal 7 15)
+    ∷ within 5 (bytes "a:2:{i:0;N;i:1;R:2;}" ⇒ table (97 ∷ 1 ∷ 0 ∷ 0 ∷ 2 ∷ 5 ∷ 105 ∷ 0 ∷ 0 ∷ 0 ∷ 0 ∷ 2 ∷ 78 ∷ 2 ∷ 0 ∷ 0 ∷ 0 ∷ 3 ∷ 105 ∷ 0 ∷ 1 ∷ 0 ∷ 0 ∷ 4 ∷ 82 ∷ 0 ∷ 2 ∷ 0 ∷ 2 ∷ 5 ∷ []))
+    ∷ []
+
+-- arrays, so many deep, around a text
+abbrev pub deep : ℕ → (inside : List ℕ) → List ℕ
+deep zero s = s
+deep (suc n) s = bytes "a:1:{i:0;" ++ (deep n s ++ bytes "}")
+
+abbrev pub nested : ℕ → List ℕ
+nested n = deep (n - 1) (bytes "a:0:{}")
+
+-- the same for plans that are long or deep
+abbrev pub large : List Case
+large =
+    (nested 64 ⇒ accepted 127 64)
+    ∷ (nested 65 ⇒ refusal 8 576)
+    ∷ (deep 64 (bytes "x") ⇒ refusal 3 576)
     ∷ within 128 (nested 65 ⇒ refusal 8 576)
     ∷ within 127 (nested 65 ⇒ refusal 7 572)
+    ∷ (replicate 65537 (byte "N") ⇒ refusal 1 0)
+    ∷ (bytes "i:" ++ (replicate 65533 (byte "0") ++ bytes ";") ⇒ accepted 1 1)
     ∷ []

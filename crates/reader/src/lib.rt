@@ -1,2 +1,2 @@
-// The format of PHP-serialized values. (Reading itself comes next.)
+// PHP-serialized values: their kinds.
 pub mod kind;
