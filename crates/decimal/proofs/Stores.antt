@@ -21,7 +21,7 @@ stored-small before after at n h e = record {
   output = e ∙ ap (λ (i : ℕ). set before i (48 + n)) (add-zero at) ∙ ap (λ (l : List ℕ). sets before at l) (sym (decimal-small n h));
 }
 
--- the count of digits stored, of a number of at most 20
+-- so few digits that a count of them cannot overflow
 pub stored-short : {before after : List ℕ} {at n written : ℕ} → Stored before at n written after → n < 10 ^ 20 → written ≤ 20
 stored-short {n = n} s h = omega (arith, s .length, decimal-length 19 n h)
 

@@ -39,7 +39,7 @@ module _ (set : Setting) where
       let d = bind-ok (require (not (hasKey (c .0 .0) earlier)) 9 l) _ q (c .2) in
       let t = keyText-ok (a .0 .0) l (a .0 .1) (c .0) (key-kind h l s (a .0) (a .1)) (c .1) in
       subst (GotKey h earlier before s) (ok-same (d .2)) (record {
-        text = tag-ok (keyKinds (isArray h)) 4 l s (a .0) (a .1) ∙ t .text;
+        text = tag-ok (keyKinds (isArray h)) 4 l s (a .0) (a .1) .text ∙ t .text;
         fits = t .fits;
         allow = key-allowed h l s (a .0) (c .0 .0) (c .0 .1) (a .1) (t .text);
         fresh = require-ok (not (hasKey (c .0 .0) earlier)) 9 l (d .0) (d .1);
@@ -176,7 +176,7 @@ module _ (set : Setting) where
       let l : ℕ = position set s in
       let a = bind-ok (tagOf kinds 3 l s) _ q e in
       let b = bind-ok (require (ltb before (set .capacity)) 7 l) _ q (a .2) in
-      rw (tag-ok kinds 3 l s (a .0) (a .1))
+      rw (tag-ok kinds 3 l s (a .0) (a .1) .text)
       (body-ok (readValue set d) d (λ t b′ s′ q′ e′. value-ok d t b′ s′ q′ e′) (a .0 .0) l seen before (a .0 .1) q
       (ltb→lt before (set .capacity) (require-ok (ltb before (set .capacity)) 7 l (b .0) (b .1))) (b .2))
 

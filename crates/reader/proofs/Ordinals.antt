@@ -15,7 +15,7 @@ use Rattle.reader.specs.Table.{Node, keyNode, scalarNode, branchNode, ta
 use Rattle.reader.specs.Shows.{ordinalsOf, upFrom, nodeAt}
 use Rattle.reader.proofs.Rows.{scalar-carries, branch-carries}
 
--- ---- the numbers taken
+-- ---- the ordinals taken
 ordinal-some : (x : Node) (ns : List Node) → 1 ≤ x .ordinal → ordinalsOf (x ∷ ns) ≡ x .ordinal ∷ ordinalsOf ns
 ordinal-some x ns h = rw (ne-eqb (x .ordinal) 0 (λ e. omega arith), ordinalsOf)
 
@@ -74,7 +74,7 @@ pub ordinals-in-order : (v : Value) → ordinalsOf (tableOf v) ≡ upFrom 1 (ord
 unfolding tableOf
 ordinals-in-order v = table-ordinals (targetOf v) v 0 0 1 (omega arith)
 
--- ---- one node carries a number
+-- ---- one node carries an ordinal
 data Step (x : Node) (rows : List Node) (n : ℕ) : Type 0 where
   passes : x .ordinal ≡ 0 → (c : ℕ) → ordinalsOf rows ≡ upFrom n c → Step x rows n
   takes : x .ordinal ≡ n → (c : ℕ) → ordinalsOf rows ≡ upFrom (suc n) c → Step x rows n
@@ -103,7 +103,7 @@ later (x ∷ rows) n c (suc i) e h = go (step x rows n c e) (λ m d s. later row
     go (passes z d s) r = r n d s
     go (takes z d s) r = let k = r (suc n) d s in omega arith
 
--- the node that carries a number is the only one
+-- the node that carries an ordinal is the only one
 once : (rows : List Node) (n c i j : ℕ) → ordinalsOf rows ≡ upFrom n c → 1 ≤ nodeAt rows i .ordinal → nodeAt rows i .ordinal ≡ nodeAt rows j .ordinal → i ≡ j
 once [] n c i j e h s = absurd (omega arith)
 once (x ∷ rows) n c zero zero e h s = refl

@@ -1,7 +1,7 @@
 -- A text that reading accepts is the print of what was read, and in range. Assumes nothing.
 use mathlib.Core.Path.{_≡_, sym, ap, ap₂, _∙_, subst}
 use mathlib.Core.Logic.{⊎-elim}
-use mathlib.Core.List.{List, [], _∷_, _++_, List·Memᴰ, List·Memᴰ·head, List·Memᴰ·tail, Memᴰ·cast, List·Memᴰ·cases-cons, List·Memᴰ·eq-of-singleton}
+use mathlib.Core.List.{List, [], _∷_, _++_, List·Memᴰ, List·Memᴰ·head, List·Memᴰ·tail, List·Memᴰ·cases-cons, List·Memᴰ·eq-of-singleton}
 use mathlib.Core.Bool.{true, false, Bool, _&&_, _||_}
 use Prim.Native.Nat.{ℕ, _-_, _≤_, _<_}
 use native.Mathlib.Omega.{arith}
@@ -23,34 +23,33 @@ use Rattle.reader.proofs.Answers.{ok-same, not-both, bind-ok, require-o
 use Rattle.reader.proofs.Floats.{sign-split, until-split}
 
 -- ---- tags
-kind-ok : (js : List Kind) (code at b : ℕ) (k : Kind) → kindOf js code at b ≡ ok k → b ≡ tag k
+-- a kind that was chosen is the byte's, and among those offered
+pub record Chosen (js : List Kind) (b : ℕ) (k : Kind) : Type 0 where
+  pub tagged : b ≡ tag k
+  pub among : List·Memᴰ k js
+
+kind-ok : (js : List Kind) (code at b : ℕ) (k : Kind) → kindOf js code at b ≡ ok k → Chosen js b k
 kind-ok [] code at b k e = absurd (not-both e)
 kind-ok (j ∷ js) code at b k e = go (test (eqb (tag j) b)) (λ d. kind-ok js code at b k d)
   where
-    go : Test (eqb (tag j) b) → (kindOf js code at b ≡ ok k → b ≡ tag k) → b ≡ tag k
-    go (passed t) r = sym (eqb→eq (tag j) b (T-of t)) ∙ ap tag (ok-same (rw (t, kindOf) at e))
-    go (failed t) r = r (rw (t, kindOf) at e)
+    go : Test (eqb (tag j) b) → (kindOf js code at b ≡ ok k → Chosen js b k) → Chosen (j ∷ js) b k
+    go (passed t) r =
+        let i : j ≡ k = ok-same (rw (t, kindOf) at e) in
+        record { tagged = sym (eqb→eq (tag j) b (T-of t)) ∙ ap tag i; among = List·Memᴰ·head (sym i) }
+    go (failed t) r =
+        let c = r (rw (t, kindOf) at e) in
+        record { tagged = c .tagged; among = List·Memᴰ·tail (c .among) }
 
-pub tag-ok : (js : List Kind) (code at : ℕ) (s : List ℕ) (q : Kind × List ℕ) → tagOf js code at s ≡ ok q → s ≡ tag (q .0) ∷ q .1
+pub record GotTag (js : List Kind) (s : List ℕ) (q : Kind × List ℕ) : Type 0 where
+  pub text : s ≡ tag (q .0) ∷ q .1
+  pub among : List·Memᴰ (q .0) js
+
+pub tag-ok : (js : List Kind) (code at : ℕ) (s : List ℕ) (q : Kind × List ℕ) → tagOf js code at s ≡ ok q → GotTag js s q
 tag-ok js code at [] q e = absurd (not-both e)
 tag-ok js code at (b ∷ s) q e =
     let a = bind-ok (kindOf js code at b) _ q e in
-    let i : (a .0, s) ≡ q = ok-same (a .2) in
-    ap (λ (x : ℕ). x ∷ s) (kind-ok js code at b (a .0) (a .1)) ∙ ap (λ (x : Kind × List ℕ). tag (x .0) ∷ x .1) i
-
-among-ok : (js : List Kind) (code at b : ℕ) (k : Kind) → kindOf js code at b ≡ ok k → List·Memᴰ k js
-among-ok [] code at b k e = absurd (not-both e)
-among-ok (j ∷ js) code at b k e = go (test (eqb (tag j) b)) (λ d. among-ok js code at b k d)
-  where
-    go : Test (eqb (tag j) b) → (kindOf js code at b ≡ ok k → List·Memᴰ k js) → List·Memᴰ k (j ∷ js)
-    go (passed t) r = List·Memᴰ·head (sym (ok-same (rw (t, kindOf) at e)))
-    go (failed t) r = List·Memᴰ·tail (r (rw (t, kindOf) at e))
-
-tag-among : (js : List Kind) (code at : ℕ) (s : List ℕ) (q : Kind × List ℕ) → tagOf js code at s ≡ ok q → List·Memᴰ (q .0) js
-tag-among js code at [] q e = absurd (not-both e)
-tag-among js code at (b ∷ s) q e =
-    let a = bind-ok (kindOf js code at b) _ q e in
-    Memᴰ·cast (sym (ap (λ (x : Kind × List ℕ). x .0) (ok-same (a .2)))) (among-ok js code at b (a .0) (a .1))
+    let c = kind-ok js code at b (a .0) (a .1) in
+    subst (GotTag js (b ∷ s)) (ok-same (a .2)) (record { text = ap (λ (x : ℕ). x ∷ s) (c .tagged); among = c .among })
 
 -- ---- texts
 pub expect-ok : (l : ℕ) (ws s s′ : List ℕ) → expect l ws s ≡ ok s′ → s ≡ ws ++ s′
@@ -205,8 +204,8 @@ pub data KeyKind (k : Kind) : Type 0 where
   is-string : k ≡ Kind.string → KeyKind k
 
 pub key-kind : (c : Container) (l : ℕ) (s : List ℕ) (q : Kind × List ℕ) → tagOf (keyKinds (isArray c)) 4 l s ≡ ok q → KeyKind (q .0)
-key-kind array l s q e = ⊎-elim is-int (λ m. is-string (List·Memᴰ·eq-of-singleton m)) (List·Memᴰ·cases-cons (tag-among (keyKinds true) 4 l s q e))
-key-kind (object t) l s q e = is-string (List·Memᴰ·eq-of-singleton (tag-among (keyKinds false) 4 l s q e))
+key-kind array l s q e = ⊎-elim is-int (λ m. is-string (List·Memᴰ·eq-of-singleton m)) (List·Memᴰ·cases-cons (tag-ok (keyKinds true) 4 l s q e .among))
+key-kind (object t) l s q e = is-string (List·Memᴰ·eq-of-singleton (tag-ok (keyKinds false) 4 l s q e .among))
 
 pub record GotText (k : Kind) (s : List ℕ) (q : Key × List ℕ) : Type 0 where
   pub text : tag k ∷ s ≡ writeKey (q .0) (q .1)
@@ -236,4 +235,4 @@ string-allowed t (stringKey q) r s e = tt
 
 pub key-allowed : (c : Container) (l : ℕ) (s : List ℕ) (a : Kind × List ℕ) (k : Key) (r : List ℕ) → tagOf (keyKinds (isArray c)) 4 l s ≡ ok a → tag (a .0) ∷ a .1 ≡ writeKey k r → T (allowed c k)
 key-allowed array l s a k r e f = tt
-key-allowed (object t) l s a k r e f = string-allowed t k r (a .1) (ap (λ (x : Kind). tag x ∷ a .1) (sym (List·Memᴰ·eq-of-singleton (tag-among (keyKinds false) 4 l s a e))) ∙ f)
+key-allowed (object t) l s a k r e f = string-allowed t k r (a .1) (ap (λ (x : Kind). tag x ∷ a .1) (sym (List·Memᴰ·eq-of-singleton (tag-ok (keyKinds false) 4 l s a e .among))) ∙ f)
