@@ -1,0 +1,22 @@
+-- Laws of answers. Assumes nothing.
+use mathlib.Core.Path.{_≡_, refl}
+use mathlib.Core.Bool.{Bool, true, false}
+use Prim.Native.Nat.{ℕ}
+use native.Mathlib.Omega.{arith}
+use lib.Dec.{T}
+use Rattle.format.specs.Answer.{Answer, ok, refused, _>>=_, require}
+
+pub ok-same : {A : Type 0} {a b : A} → ok a ≡ ok b → a ≡ b
+ok-same e = cc
+
+pub not-both : {A : Type 0} {n p : ℕ} {a : A} → refused n p ≡ ok a → ⊥
+not-both e = let z : _≡_ {A = ℕ} 0 1 = cc in omega arith
+
+-- where the whole is accepted each part is
+pub bind-ok : {A B : Type 0} (a : Answer A) (f : A → Answer B) (b : B) → (a >>= f) ≡ ok b → (x : A) × (a ≡ ok x) × (f x ≡ ok b)
+bind-ok (ok a) f b e = (a, refl, e)
+bind-ok (refused n p) f b e = absurd (not-both e)
+
+pub require-ok : (t : Bool) (n p : ℕ) (x : Unit {0}) → require t n p ≡ ok x → T t
+require-ok true n p x e = tt
+require-ok false n p x e = absurd (not-both e)

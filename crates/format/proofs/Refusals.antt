@@ -1,0 +1,198 @@
+-- What a refusal of reading may be: a number of paper 01's table, and a position in the plan or at its end. Assumes nothing.
+use mathlib.Core.Path.{_≡_, refl, subst}
+use mathlib.Core.List.{List, [], _∷_}
+use mathlib.Core.Bool.{Bool, true, false, _&&_, _||_, not}
+use Prim.Native.Nat.{ℕ, zero, suc, _+_, _≤_, _<_}
+use native.Mathlib.Omega.{arith}
+use lib.Dec.{ltb, leb, eqb}
+use lib.ListN.{length, take, drop}
+use Rattle.decimal.specs.Digits.{digitsOf, value}
+use Rattle.decimal.proofs.Decide.{Test, passed, failed, test}
+use Rattle.format.specs.Bytes.{byte, bytes, isEmpty, sameBytes}
+use Rattle.format.specs.Kind.{Kind, kinds, tag, keyKinds}
+use Rattle.format.specs.Tree.{nodes}
+use Rattle.format.specs.Syntax.{array, object, Key, Container, RefKind, objectRef, variableRef}
+use Rattle.format.specs.Keys.{hasKey}
+use Rattle.format.specs.Limits.{numberLimit, sourceLimit, depthLimit, integerLimit, signOf, isFloat, Seen, unseen, seeBranch, see}
+use Rattle.format.specs.Answer.{Answer, ok, refused, _>>=_, require}
+use Rattle.format.specs.Reading.{RefusalRow}
+use Rattle.format.specs.Read.{kindOf, tagOf, expect, until, digits, number, intText, quotedText, boolText, floatText, referenceText, Setting, setting, position, isArray, keyText, Inner, readKey, readPairs, readBranch, readBody, readValue, read}
+
+module _ (size : ℕ) where
+  abbrev pub Proper : {A : Type 0} → Answer A → Type 0
+  Proper (ok a) = Unit {0}
+  Proper (refused n p) = RefusalRow size n p
+
+  bind : {A B : Type 0} (a : Answer A) (f : A → Answer B) → Proper a → ((x : A) → Proper (f x)) → Proper (a >>= f)
+  bind (ok x) f h g = g x
+  bind (refused n p) f h g = h
+
+  ask : {B : Type 0} (t : Bool) (n p : ℕ) (f : Unit {0} → Answer B) → RefusalRow size n p → ((x : Unit {0}) → Proper (f x)) → Proper (require t n p >>= f)
+  ask true n p f r g = g tt
+  ask false n p f r g = r
+
+  two : (p : ℕ) → p ≤ size → RefusalRow size 2 p
+  two p h = record { least = omega arith; most = omega arith; start = λ e. omega arith; inside = h; byte = λ e. omega arith }
+
+  -- behind or at a tag at `l`
+  module _ (l : ℕ) (h : l < size) where
+    row : (n : ℕ) → 2 ≤ n → n ≤ 10 → RefusalRow size n l
+    row n a b = record { least = omega arith; most = b; start = λ e. omega arith; inside = omega arith; byte = λ e. h }
+
+    expected : (ws s : List ℕ) → Proper (expect l ws s)
+    expected [] s = tt
+    expected (w ∷ ws) [] = two l (omega arith)
+    expected (w ∷ ws) (b ∷ s) = go (test (eqb w b)) (expected ws s)
+      where
+        go : Test (eqb w b) → Proper (expect l ws s) → Proper (expect l (w ∷ ws) (b ∷ s))
+        go (passed t) r = rw (t, expect) r
+        go (failed t) r = rw (t, expect) (two l (omega arith))
+
+    next : {B : Type 0} (ws s : List ℕ) (f : List ℕ → Answer B) → ((x : List ℕ) → Proper (f x)) → Proper (expect l ws s >>= f)
+    next ws s f g = bind (expect l ws s) f (expected ws s) g
+
+    tagged : (ks : List Kind) (n b : ℕ) → 2 ≤ n → n ≤ 10 → Proper (kindOf ks n l b)
+    tagged [] n b lo hi = row n lo hi
+    tagged (j ∷ js) n b lo hi = go (test (eqb (tag j) b)) (tagged js n b lo hi)
+      where
+        go : Test (eqb (tag j) b) → Proper (kindOf js n l b) → Proper (kindOf (j ∷ js) n l b)
+        go (passed t) r = rw (t, kindOf) tt
+        go (failed t) r = rw (t, kindOf) r
+
+    digits-proper : (top : ℕ) (s : List ℕ) → Proper (digits l top s)
+    unfolding digits
+    digits-proper top s =
+        ask (ltb 0 (length (digitsOf s))) 2 l _ (row 2 (omega arith) (omega arith)) (λ a.
+        ask (leb (value (digitsOf s)) top) 5 l _ (row 5 (omega arith) (omega arith)) (λ b. tt))
+
+    number-proper : (s : List ℕ) → Proper (number l s)
+    unfolding number
+    number-proper s = bind (digits l numberLimit s) _ (digits-proper numberLimit s) (λ a. tt)
+
+    int-proper : (s : List ℕ) → Proper (intText l s)
+    unfolding intText
+    int-proper s =
+        next (bytes ":") s _ (λ a.
+        bind (digits l (integerLimit (signOf a .0)) (signOf a .1)) _ (digits-proper (integerLimit (signOf a .0)) (signOf a .1)) (λ b.
+        next (bytes ";") (b .1) _ (λ c. tt)))
+
+    quoted-proper : (close s : List ℕ) → Proper (quotedText l close s)
+    unfolding quotedText
+    quoted-proper close s =
+        next (bytes ":") s _ (λ a.
+        bind (number l a) _ (number-proper a) (λ b.
+        next (bytes ":\"") (b .1) _ (λ c.
+        ask (leb (b .0 .1) (length c)) 2 l _ (row 2 (omega arith) (omega arith)) (λ d.
+        next close (drop (b .0 .1) c) _ (λ e. tt)))))
+
+    bool-proper : (s : List ℕ) → Proper (boolText l s)
+    unfolding boolText
+    bool-proper s =
+        next (bytes ":") s _ (λ a.
+        ask (sameBytes (take 1 a) (bytes "0") || sameBytes (take 1 a) (bytes "1")) 2 l _ (row 2 (omega arith) (omega arith)) (λ b.
+        next (bytes ";") (drop 1 a) _ (λ c. tt)))
+
+    float-proper : (s : List ℕ) → Proper (floatText l s)
+    unfolding floatText
+    float-proper s =
+        next (bytes ":") s _ (λ a.
+        ask (isFloat (until (byte ";") a)) 2 l _ (row 2 (omega arith) (omega arith)) (λ b.
+        bind (expect l (bytes ";") (drop (length (until (byte ";") a)) a)) _ (expected (bytes ";") (drop (length (until (byte ";") a)) a)) (λ c. tt)))
+
+    reference-proper : (k : RefKind) (seen : Seen) (s : List ℕ) → Proper (referenceText k l seen s)
+    unfolding referenceText
+    reference-proper k seen s =
+        next (bytes ":") s _ (λ a.
+        bind (number l a) _ (number-proper a) (λ b.
+        next (bytes ";") (b .1) _ (λ c.
+        ask (ltb 0 (b .0 .1) && leb (b .0 .1) seen) 6 l _ (row 6 (omega arith) (omega arith)) (λ d. tt))))
+
+    key-proper : (k : Kind) (s : List ℕ) → Proper (keyText k l s)
+    unfolding keyText
+    key-proper k s = go (test (eqb (tag k) (tag Kind.int)))
+      where
+        go : Test (eqb (tag k) (tag Kind.int)) → Proper (keyText k l s)
+        go (passed t) = rw (t, Proper) (bind (intText l s) _ (int-proper s) (λ a. tt))
+        go (failed t) = rw (t, Proper) (bind (quotedText l (bytes "\";") s) _ (quoted-proper (bytes "\";") s) (λ a. tt))
+
+-- ---- values and pairs
+module _ (set : Setting) where
+  abbrev Ok : {A : Type 0} → Answer A → Type 0
+  Ok a = Proper (set .size) a
+
+  -- some bytes are left, so their first is a byte of the plan
+  module _ (some : 0 < set .size) where
+    here : (b : ℕ) (s : List ℕ) → position set (b ∷ s) < set .size
+    here b s = omega arith
+
+    readKey-proper : (ofArray : Bool) (earlier : List Key) (before : ℕ) (s : List ℕ) → Ok (readKey set ofArray earlier before s)
+    unfolding readKey
+    readKey-proper ofArray earlier before [] = two (set .size) (position set []) (omega arith)
+    readKey-proper ofArray earlier before (b ∷ s) =
+        let l : ℕ = position set (b ∷ s) in
+        bind (set .size) (tagOf (keyKinds ofArray) 4 l (b ∷ s)) _ (bind (set .size) (kindOf (keyKinds ofArray) 4 l b) _ (tagged (set .size) l (here b s) (keyKinds ofArray) 4 b (omega arith) (omega arith)) (λ k. tt)) (λ k.
+        ask (set .size) (ltb before (set .capacity)) 7 l _ (row (set .size) l (here b s) 7 (omega arith) (omega arith)) (λ u.
+        bind (set .size) (keyText (k .0) l (k .1)) _ (key-proper (set .size) l (here b s) (k .0) (k .1)) (λ x.
+        ask (set .size) (not (hasKey (x .0) earlier)) 9 l _ (row (set .size) l (here b s) 9 (omega arith) (omega arith)) (λ w. tt))))
+
+    module _ (inner : Inner) (deeper : (seen : Seen) (before : ℕ) (s : List ℕ) → Ok (inner seen before s)) where
+      pairs-proper : (ofArray : Bool) (n : ℕ) (earlier : List Key) (seen : Seen) (before : ℕ) (s : List ℕ) → Ok (readPairs set inner ofArray n earlier seen before s)
+      pairs-proper ofArray zero earlier seen before s = tt
+      pairs-proper ofArray (suc n) earlier seen before s =
+          bind (set .size) (readKey set ofArray earlier before s) _ (readKey-proper ofArray earlier before s) (λ k.
+          bind (set .size) (inner seen (suc before) (k .1)) _ (deeper seen (suc before) (k .1)) (λ v.
+          bind (set .size) (readPairs set inner ofArray n (k .0 ∷ earlier) (see seen (v .0)) (suc (before + nodes (v .0))) (v .1)) _
+          (pairs-proper ofArray n (k .0 ∷ earlier) (see seen (v .0)) (suc (before + nodes (v .0))) (v .1)) (λ ps. tt)))
+
+      branch-proper : (c : Container) (l : ℕ) (h : l < set .size) (seen : Seen) (before : ℕ) (s : List ℕ) → Ok (readBranch set inner c l seen before s)
+      unfolding readBranch
+      branch-proper c l h seen before s =
+          bind (set .size) (number l s) _ (number-proper (set .size) l h s) (λ n.
+          next (set .size) l h (bytes ":{") (n .1) _ (λ s₂.
+          bind (set .size) (readPairs set inner (isArray c) (n .0 .1) [] (seeBranch seen) (suc before) s₂) _ (pairs-proper (isArray c) (n .0 .1) [] (seeBranch seen) (suc before) s₂) (λ ps.
+          next (set .size) l h (bytes "}") (ps .1) _ (λ s₄. tt))))
+
+      body-proper : (k : Kind) (l : ℕ) (h : l < set .size) (seen : Seen) (before : ℕ) (s : List ℕ) → Ok (readBody set inner k l seen before s)
+      unfolding readBody
+      body-proper Kind.null l h seen before s = next (set .size) l h (bytes ";") s _ (λ a. tt)
+      body-proper Kind.bool l h seen before s = bind (set .size) (boolText l s) _ (bool-proper (set .size) l h s) (λ a. tt)
+      body-proper Kind.int l h seen before s = bind (set .size) (intText l s) _ (int-proper (set .size) l h s) (λ a. tt)
+      body-proper Kind.float l h seen before s = bind (set .size) (floatText l s) _ (float-proper (set .size) l h s) (λ a. tt)
+      body-proper Kind.string l h seen before s = bind (set .size) (quotedText l (bytes "\";") s) _ (quoted-proper (set .size) l h (bytes "\";") s) (λ a. tt)
+      body-proper Kind.array l h seen before s = next (set .size) l h (bytes ":") s _ (λ a. branch-proper array l h seen before a)
+      body-proper Kind.object l h seen before s = bind (set .size) (quotedText l (bytes "\":") s) _ (quoted-proper (set .size) l h (bytes "\":") s) (λ a. branch-proper (object (a .0)) l h seen before (a .1))
+      body-proper Kind.objectReference l h seen before s = bind (set .size) (referenceText objectRef l seen s) _ (reference-proper (set .size) l h objectRef seen s) (λ a. tt)
+      body-proper Kind.variableReference l h seen before s = bind (set .size) (referenceText variableRef l seen s) _ (reference-proper (set .size) l h variableRef seen s) (λ a. tt)
+
+    value-proper : (d : ℕ) (seen : Seen) (before : ℕ) (s : List ℕ) → Ok (readValue set d seen before s)
+    value-proper zero seen before [] = two (set .size) (position set []) (omega arith)
+    value-proper (suc d) seen before [] = two (set .size) (position set []) (omega arith)
+    value-proper zero seen before (b ∷ s) =
+        let l : ℕ = position set (b ∷ s) in
+        bind (set .size) (tagOf kinds 3 l (b ∷ s)) _ (bind (set .size) (kindOf kinds 3 l b) _ (tagged (set .size) l (here b s) kinds 3 b (omega arith) (omega arith)) (λ k. tt)) (λ k. row (set .size) l (here b s) 8 (omega arith) (omega arith))
+    value-proper (suc d) seen before (b ∷ s) =
+        let l : ℕ = position set (b ∷ s) in
+        bind (set .size) (tagOf kinds 3 l (b ∷ s)) _ (bind (set .size) (kindOf kinds 3 l b) _ (tagged (set .size) l (here b s) kinds 3 b (omega arith) (omega arith)) (λ k. tt)) (λ k.
+        ask (set .size) (ltb before (set .capacity)) 7 l _ (row (set .size) l (here b s) 7 (omega arith) (omega arith)) (λ u.
+        body-proper (readValue set d) (λ x y z. value-proper d x y z) (k .0) l (here b s) seen before (k .1)))
+
+-- the first byte behind the plan
+behind : {B : Type 0} (set : Setting) (s : List ℕ) (f : Unit {0} → Answer B) → 0 < set .size → ((x : Unit {0}) → Proper (set .size) (f x)) → Proper (set .size) (require (isEmpty s) 10 (position set s) >>= f)
+behind set [] f h g = g tt
+behind set (b ∷ s) f h g = row (set .size) (position set (b ∷ s)) (omega arith) 10 (omega arith) (omega arith)
+
+one : (size : ℕ) → RefusalRow size 1 0
+one size = record { least = omega arith; most = omega arith; start = λ e. refl; inside = omega arith; byte = λ e. omega arith }
+
+read-proper : (capacity : ℕ) (source : List ℕ) → Proper (length source) (read capacity source)
+unfolding read
+read-proper capacity [] = two 0 0 (omega arith)
+read-proper capacity (b ∷ s) =
+    let set : Setting = setting capacity (b ∷ s) in
+    ask (set .size) (leb (set .size) sourceLimit) 1 0 _ (one (set .size)) (λ u.
+    bind (set .size) (readValue set depthLimit unseen 0 (b ∷ s)) _ (value-proper set (omega arith) depthLimit unseen 0 (b ∷ s)) (λ v.
+    behind set (v .1) _ (omega arith) (λ w. tt)))
+
+-- "A refusal returns its number and a position": of reading, 1 to 10, and where the table's last column may point
+pub refusal-proper : (capacity : ℕ) (source : List ℕ) (n p : ℕ) → read capacity source ≡ refused n p → RefusalRow (length source) n p
+refusal-proper capacity source n p e = subst (Proper (length source)) e (read-proper capacity source)

@@ -1,0 +1,38 @@
+-- "Canonical text": every integer and number in shortest decimal form.
+use Prim.Native.Nat.{ℕ, zero, suc}
+use Rattle.format.specs.Tree.{mapTree}
+use Rattle.format.specs.Syntax.{mapKey, mapScalar, mapContainer, Spelling, Sign, unsigned, plus, minus, Literal, Quoted, Key, Scalar, Head, Reference, Value}
+
+-- "no leading zero"
+abbrev pub shortest : Spelling
+shortest = record { zeros = 0 }
+
+-- "no `+` … `0` for zero and never `-0`"
+abbrev pub shortestSign : Sign → (magnitude : ℕ) → Sign
+shortestSign unsigned n = unsigned
+shortestSign plus n = unsigned
+shortestSign minus zero = unsigned
+shortestSign minus (suc n) = minus
+
+abbrev pub shortestInt : Literal → Literal
+shortestInt x = record { sign = shortestSign (x .sign) (x .magnitude); zeros = 0; magnitude = x .magnitude }
+
+-- "Float texts, strings and class names are copied."
+abbrev pub shortestQuoted : Quoted → Quoted
+shortestQuoted q = record { spelling = shortest; text = q .text }
+
+abbrev pub canonicalKey : Key → Key
+canonicalKey k = mapKey shortestInt shortestQuoted k
+
+abbrev pub canonicalScalar : Scalar → Scalar
+canonicalScalar x = mapScalar shortestInt shortestQuoted x
+
+abbrev pub canonicalHead : Head → Head
+canonicalHead h = record { container = mapContainer shortestQuoted (h .container); spelling = shortest }
+
+abbrev pub canonicalReference : Reference → Reference
+canonicalReference r = record { kind = r .kind; spelling = shortest; named = r .named }
+
+-- the syntax whose print is the canonical text
+unfoldable pub canonical : Value → Value
+canonical v = mapTree canonicalKey canonicalScalar canonicalHead canonicalReference v

@@ -1,0 +1,5 @@
+pub mod BytesAt
+pub mod Numbers
+pub mod Flags
+pub mod Quotes
+pub mod Floats

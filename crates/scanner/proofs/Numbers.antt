@@ -1,0 +1,252 @@
+-- Laws of the texts of digits. Assumes nothing.
+use Prim.Native.Nat.{ℕ, suc, zero, _+_, _-_, _*_, _≤_, _<_, min}
+use native.Mathlib.Omega.{arith}
+use mathlib.Core.Path.{_≡_, refl, sym, ap, _∙_, subst}
+use mathlib.Core.Bool.{Bool, true, false, _&&_}
+use mathlib.Core.List.{List, [], _∷_, _++_}
+use lib.Dec.{eqb, lit<}
+use lib.ListN.{length, getD, drop, length-drop, length-append, drop-of-length-le}
+use lib.Seq.{drop-cons, drop-drop, drop-append-seam}
+use borrow.Author.Tests.{le-leb, lt-leb, lt-ltb, le-ltb, eq-eqb, ne-eqb}
+use Rattle.decimal.specs.Digits.{digitsOf, afterDigits, value, decimal, spelled}
+use Rattle.decimal.specs.Complement.{pattern}
+use Rattle.decimal.specs.Promise.{RunAt}
+use Rattle.decimal.specs.declared.Run.{Run}
+use Rattle.decimal.proofs.Decide.{Order, below, above, order}
+use Rattle.decimal.proofs.Numerals.{digits-split}
+use Rattle.format.specs.Bytes.{byte, bytes}
+use Rattle.format.specs.Syntax.{Sign, unsigned, plus, minus, Literal, Spelling}
+use Rattle.format.specs.Keys.{integer, signed}
+use Rattle.format.specs.Limits.{numberLimit, integerLimit, signOf}
+use Rattle.format.specs.Answer.{Answer, ok, refused, _>>=_, require}
+use Rattle.format.specs.Read.{expect, digits, number, intText}
+use Rattle.format.specs.Table.{word}
+use Rattle.scanner.specs.declared.Text.{Text}
+use Rattle.scanner.specs.declared.Scan.{Scan}
+use Rattle.scanner.specs.Scans.{byteAt, Reader, Told, Found, Scans, found, unfit, digitsText, signedText, countText, namedText, tell, valueTold, integerTold, numberTold, countTold}
+use Rattle.scanner.proofs.BytesAt.{byte-there, drop-byte, byte-other, expect-yes, expect-no, pair-there, pair-yes, pair-no}
+
+-- ---- answers
+
+-- which of the two it is, where the code knows
+module _ {A : Type 0} {read : Reader A} {told : Told A} {s : List ℕ} {at : ℕ} where
+  pub found-of : {r : Scan} {t : Text} → Scans read told s at r → r ≡ Scan.Is t → Found read told s at t
+  found-of (found t f) e = subst (Found read told s at) (is-same e) f
+    where
+      is-same : {t u : Text} → Scan.Is t ≡ Scan.Is u → t ≡ u
+      is-same e = cc
+  found-of (unfit c f) e = absurd (is-not e)
+    where
+      is-not : {t : Text} {c : ℕ} → Scan.Not c ≡ Scan.Is t → ⊥
+      is-not e = let z : _≡_ {A = ℕ} 0 1 = cc in omega arith
+
+  pub unfit-of : {r : Scan} {c : ℕ} → Scans read told s at r → r ≡ Scan.Not c → (l : ℕ) → read l (drop at s) ≡ refused c l
+  unfit-of (found t f) e l = absurd (is-not e)
+    where
+      is-not : {t : Text} {c : ℕ} → Scan.Is t ≡ Scan.Not c → ⊥
+      is-not e = let z : _≡_ {A = ℕ} 0 1 = cc in omega arith
+  unfit-of (unfit c f) e l = f l ∙ ap (λ (c : ℕ). refused c l) (not-same e)
+    where
+      not-same : {a b : ℕ} → Scan.Not a ≡ Scan.Not b → a ≡ b
+      not-same e = cc
+
+-- a text whose part is unfit is unfit as its part is
+pub unfit-part : {A B : Type 0} {read : Reader A} {told : Told A} {whole : Reader B} {tells : Told B} {s : List ℕ} {at from c : ℕ} {r : Scan}
+    → Scans read told s from r → r ≡ Scan.Not c → ((l : ℕ) → read l (drop from s) ≡ refused c l → whole l (drop at s) ≡ refused c l) → Scans whole tells s at r
+unfit-part {whole = whole} {tells} {s} {at} {c = c} h e f = subst (Scans whole tells s at) (sym e) (unfit c (λ l. f l (unfit-of h e l)))
+
+-- what was read, and what is left
+abbrev pub kept : {A : Type 0} → A → List ℕ → Answer (A × List ℕ)
+kept a s = ok (a, s)
+
+-- what is made of a part is made after it
+pub after-part : {A B : Type 0} (a : Answer (A × List ℕ)) (e : List ℕ → Answer (List ℕ)) (f : A → B)
+    → (a >>= λ q. e (q .1) >>= λ s. kept (f (q .0)) s) ≡ ((a >>= λ q. e (q .1) >>= λ s. kept (q .0) s) >>= λ q. kept (f (q .0)) (q .1))
+after-part (refused c p) e f = refl
+after-part {A} {B} (ok q) e f = go (e (q .1))
+  where
+    go : (b : Answer (List ℕ)) → (b >>= λ s. kept (f (q .0)) s) ≡ ((b >>= λ s. kept (q .0) s) >>= λ q. kept (f (q .0)) (q .1))
+    go (refused c p) = refl
+    go (ok s) = refl
+
+-- ---- runs of digits
+
+module _ (s : List ℕ) (at cap : ℕ) (r : Run) (h : RunAt s at cap r) where
+  pub run-rest : afterDigits (drop at s) ≡ drop (r .next) s
+  run-rest =
+      sym (drop-append-seam (digitsOf (drop at s)) (afterDigits (drop at s)))
+      ∙ ap (drop (length (digitsOf (drop at s)))) (sym (digits-split (drop at s)))
+      ∙ drop-drop (length (digitsOf (drop at s))) at s
+      ∙ ap (λ (k : ℕ). drop k s) (sym (h .next))
+
+  pub run-short : length (digitsOf (drop at s)) ≤ length s - at
+  run-short = omega (arith, length-drop at s, ap length (digits-split (drop at s)), length-append (digitsOf (drop at s)) (afterDigits (drop at s)))
+
+  pub run-inside : at ≤ length s → r .next ≤ length s
+  run-inside l = omega (arith, run-short, h .next)
+
+module _ (s : List ℕ) (at top : ℕ) (r : Run) (h : RunAt s at (top + 1) r) where
+  pub digits-none : r .next ≡ at → Scans (digitsText top) valueTold s at (Scan.Not 2)
+  unfolding digits
+  digits-none e = unfit 2 (λ l. rw (digits, le-ltb 0 (length (digitsOf (drop at s))) (omega (arith, h .next))))
+
+  module _ (n : r .next ≡ at → ⊥) where
+    some : 0 < length (digitsOf (drop at s))
+    some = omega (arith, h .next, n)
+
+    pub digits-over : top < r .value → Scans (digitsText top) valueTold s at (Scan.Not 5)
+    unfolding digits
+    digits-over g =
+        unfit 5 (λ l. rw (digits, lt-ltb 0 (length (digitsOf (drop at s))) some, lt-leb (value (digitsOf (drop at s))) top (omega (arith, h .value))))
+
+    pub digits-are : r .value ≤ top → Scans (digitsText top) valueTold s at (Scan.Is (tell (r .value) 0 0 (r .next)))
+    unfolding digits
+    digits-are g =
+        let q : value (digitsOf (drop at s)) ≡ r .value = omega (arith, h .value) in
+        found (tell (r .value) 0 0 (r .next)) record {
+          what = (length (digitsOf (drop at s)) - length (decimal (r .value)), r .value);
+          is = λ l. rw (digits, lt-ltb 0 (length (digitsOf (drop at s))) some, q, le-leb (r .value) top g, run-rest s at (top + 1) r h);
+          tells = refl;
+          on = omega (arith, h .next, some);
+          inside = omega (arith, run-short s at (top + 1) r h, h .next, some);
+        }
+
+-- ---- integers
+
+module _ (s : List ℕ) (at : ℕ) (negative : Bool) (top : ℕ) (run : Text) (n : Found (digitsText top) valueTold s at run) where
+  pub magnitude-open : eqb (byteAt s (run .next)) (byte ";") ≡ false → Scans (signedText top) (integerTold negative) s at (Scan.Not 2)
+  unfolding signedText
+  magnitude-open e = unfit 2 (λ l. rw (signedText, n .is l, expect-no l s (run .next) (byte ";") [] e))
+
+  pub magnitude-is : (w : ℕ) → w ≡ pattern 64 negative (run .content) → eqb (byteAt s (run .next)) (byte ";") ≡ true
+      → Scans (signedText top) (integerTold negative) s at (Scan.Is (tell w 0 0 (run .next + 1)))
+  unfolding signedText
+  magnitude-is w h e =
+      let k : run .next < length s = byte-there s (run .next) (byte ";") (lit< tt) e in
+      found (tell w 0 0 (run .next + 1)) record {
+        what = n .what;
+        is = λ l. rw (signedText, n .is l, expect-yes l s (run .next) (byte ";") [] (lit< tt) e);
+        tells = ap (λ (x : ℕ). tell x 0 0 (run .next + 1)) (h ∙ ap (λ (u : Text). pattern 64 negative (u .content)) (n .tells));
+        on = omega (arith, n .on);
+        inside = omega arith;
+      }
+
+pub magnitude-not : {s : List ℕ} {at c : ℕ} {r : Scan} (negative : Bool) (top : ℕ) → Scans (digitsText top) valueTold s at r → r ≡ Scan.Not c → Scans (signedText top) (integerTold negative) s at r
+unfolding signedText
+magnitude-not negative top h e = unfit-part h e (λ l q. rw (signedText, q))
+
+-- the sign in front, and the index behind it
+pub record SignAt (s : List ℕ) (at : ℕ) (sign : Sign) (next : ℕ) : Type 0 where
+  pub is : signOf (drop at s) ≡ (sign, drop next s)
+  pub on : at ≤ next
+
+module _ (s : List ℕ) (at : ℕ) where
+  pub sign-plus : eqb (byteAt s at) (byte "+") ≡ true → SignAt s at plus (at + 1)
+  sign-plus e = record { is = ap signOf (drop-byte s at (byte "+") (lit< tt) e); on = omega arith }
+
+  pub sign-minus : eqb (byteAt s at) (byte "-") ≡ true → SignAt s at minus (at + 1)
+  sign-minus e = record { is = ap signOf (drop-byte s at (byte "-") (lit< tt) e); on = omega arith }
+
+  pub sign-none : eqb (byteAt s at) (byte "+") ≡ false → eqb (byteAt s at) (byte "-") ≡ false → SignAt s at unsigned at
+  sign-none p m = record { is = go (order at (length s)); on = omega arith }
+    where
+      go : Order at (length s) → signOf (drop at s) ≡ (unsigned, drop at s)
+      go (below k) = rw (drop-cons s at 0 k, signOf, byte-other s at (byte "+") k p, byte-other s at (byte "-") k m)
+      go (above k) = rw (drop-of-length-le s k)
+
+abbrev pub isMinus : Sign → Bool
+isMinus unsigned = false
+isMinus plus = false
+isMinus minus = true
+
+abbrev literal : Sign → ℕ × ℕ → Literal
+literal g n = record { sign = g; zeros = n .0; magnitude = n .1 }
+
+sign-word : (g : Sign) (z n : ℕ) → pattern 64 (isMinus g) n ≡ word (integer (literal g (z, n)))
+sign-word unsigned z n = refl
+sign-word plus z n = refl
+sign-word minus z zero = refl
+sign-word minus z (suc n) = refl
+
+module _ (s : List ℕ) (at : ℕ) where
+  pub int-open : eqb (byteAt s at) (byte ":") ≡ false → Scans intText numberTold s at (Scan.Not 2)
+  unfolding intText
+  int-open e = unfit 2 (λ l. rw (intText, expect-no l s at (byte ":") [] e))
+
+  module _ (colon : eqb (byteAt s at) (byte ":") ≡ true) (g : Sign) (from : ℕ) (sg : SignAt s (at + 1) g from) where
+    opened : (l : ℕ) → intText l (drop at s) ≡ (signedText (integerLimit g) l (drop from s) >>= λ q. kept (literal g (q .0)) (q .1))
+    unfolding intText signedText
+    opened l = rw (intText, expect-yes l s at (byte ":") [] (lit< tt) colon, sg .is) (after-part (digits l (integerLimit g) (drop from s)) (expect l (bytes ";")) (literal g))
+
+    pub int-is : (r : Scan) → Scans (signedText (integerLimit g)) (integerTold (isMinus g)) s from r → Scans intText numberTold s at r
+    int-is r (found t f) =
+        found t record {
+          what = literal g (f .what);
+          is = λ l. opened l ∙ rw (f .is l);
+          tells = f .tells ∙ ap (λ (x : ℕ). tell x 0 0 (t .next)) (sign-word g (f .what .0) (f .what .1));
+          on = omega (arith, sg .on, f .on);
+          inside = f .inside;
+        }
+    int-is r (unfit c f) = unfit c (λ l. opened l ∙ rw (f l))
+
+-- ---- counts and ordinals named
+
+abbrev pub spelledSo : ℕ × ℕ → Spelling × ℕ
+spelledSo n = (record { zeros = n .0 }, n .1)
+
+pub number-is : (l : ℕ) (s : List ℕ) (n : ℕ × ℕ) (s′ : List ℕ) → digits l numberLimit s ≡ ok (n, s′) → number l s ≡ ok (spelledSo n, s′)
+unfolding number
+number-is l s n s′ e = rw (number, e)
+
+pub number-not : (l c : ℕ) (s : List ℕ) → digits l numberLimit s ≡ refused c l → number l s ≡ refused c l
+unfolding number
+number-not l c s e = rw (number, e)
+
+pub count-not : {s : List ℕ} {at c : ℕ} {r : Scan} → Scans (digitsText numberLimit) valueTold s at r → r ≡ Scan.Not c → Scans countText countTold s at r
+unfolding countText
+count-not {s} {at} {c} h e = unfit-part h e (λ l q. rw (countText, number-not l c (drop at s) q))
+
+module _ (s : List ℕ) (at : ℕ) (run : Text) (n : Found (digitsText numberLimit) valueTold s at run) where
+  pub count-open : (eqb (byteAt s (run .next)) (byte ":") && eqb (byteAt s (run .next + 1)) (byte "{")) ≡ false → Scans countText countTold s at (Scan.Not 2)
+  unfolding countText
+  count-open e = unfit 2 (λ l. rw (countText, number-is l (drop at s) (n .what) (drop (run .next) s) (n .is l), pair-no s (run .next) (byte ":") (byte "{") l [] (lit< tt) e))
+
+  pub count-is : (eqb (byteAt s (run .next)) (byte ":") && eqb (byteAt s (run .next + 1)) (byte "{")) ≡ true
+      → Scans countText countTold s at (Scan.Is (tell 0 0 (run .content) (run .next + 2)))
+  unfolding countText
+  count-is e =
+      let k : run .next + 1 < length s = pair-there s (run .next) (byte ":") (byte "{") e (lit< tt) in
+      found (tell 0 0 (run .content) (run .next + 2)) record {
+        what = spelledSo (n .what);
+        is = λ l. rw (countText, number-is l (drop at s) (n .what) (drop (run .next) s) (n .is l), pair-yes s (run .next) (byte ":") (byte "{") e l [] (lit< tt) (lit< tt));
+        tells = ap (λ (u : Text). tell 0 0 (u .content) (run .next + 2)) (n .tells);
+        on = omega (arith, n .on);
+        inside = omega arith;
+      }
+
+module _ (s : List ℕ) (at : ℕ) where
+  pub named-colon : eqb (byteAt s at) (byte ":") ≡ false → Scans namedText valueTold s at (Scan.Not 2)
+  unfolding namedText
+  named-colon e = unfit 2 (λ l. rw (namedText, expect-no l s at (byte ":") [] e))
+
+  module _ (colon : eqb (byteAt s at) (byte ":") ≡ true) where
+    pub named-not : (r : Scan) (c : ℕ) → Scans (digitsText numberLimit) valueTold s (at + 1) r → r ≡ Scan.Not c → Scans namedText valueTold s at r
+    unfolding namedText
+    named-not r c h e = unfit-part h e (λ l q. rw (namedText, expect-yes l s at (byte ":") [] (lit< tt) colon, number-not l c (drop (at + 1) s) q))
+
+    module _ (run : Text) (n : Found (digitsText numberLimit) valueTold s (at + 1) run) where
+      pub named-open : eqb (byteAt s (run .next)) (byte ";") ≡ false → Scans namedText valueTold s at (Scan.Not 2)
+      unfolding namedText
+      named-open e = unfit 2 (λ l. rw (namedText, expect-yes l s at (byte ":") [] (lit< tt) colon, number-is l (drop (at + 1) s) (n .what) (drop (run .next) s) (n .is l), expect-no l s (run .next) (byte ";") [] e))
+
+      pub named-is : eqb (byteAt s (run .next)) (byte ";") ≡ true → Scans namedText valueTold s at (Scan.Is (tell (run .content) 0 0 (run .next + 1)))
+      unfolding namedText
+      named-is e =
+          let k : run .next < length s = byte-there s (run .next) (byte ";") (lit< tt) e in
+          found (tell (run .content) 0 0 (run .next + 1)) record {
+            what = spelledSo (n .what);
+            is = λ l. rw (namedText, expect-yes l s at (byte ":") [] (lit< tt) colon, number-is l (drop (at + 1) s) (n .what) (drop (run .next) s) (n .is l), expect-yes l s (run .next) (byte ";") [] (lit< tt) e);
+            tells = ap (λ (u : Text). tell (u .content) 0 0 (run .next + 1)) (n .tells);
+            on = omega (arith, n .on);
+            inside = omega arith;
+          }

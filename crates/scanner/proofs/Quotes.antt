@@ -1,0 +1,101 @@
+-- Laws of texts between quotes. Assumes nothing.
+use Prim.Native.Nat.{ℕ, suc, zero, _+_, _-_, _*_, _≤_, _<_}
+use native.Mathlib.Omega.{arith}
+use mathlib.Core.Path.{_≡_, refl, sym, ap, _∙_, subst}
+use mathlib.Core.Bool.{Bool, true, false, _&&_}
+use mathlib.Core.List.{List, [], _∷_, _++_}
+use lib.Dec.{eqb, leb, lit<}
+use lib.ListN.{length, take, drop, length-drop, length-append}
+use lib.Seq.{drop-drop, length-take-le, take-append-seam, drop-append-seam}
+use borrow.Author.Tests.{le-leb, lt-leb}
+use Rattle.decimal.specs.Digits.{spelled}
+use Rattle.decimal.proofs.Numerals.{spelled-length}
+use Rattle.format.specs.Bytes.{byte, bytes}
+use Rattle.format.specs.Syntax.{Spelling, Quoted, writeNumber}
+use Rattle.format.specs.Limits.{numberLimit}
+use Rattle.format.specs.Answer.{Answer, ok, refused, _>>=_, require}
+use Rattle.format.specs.Read.{expect, quotedText}
+use Rattle.format.proofs.Texts.{quoted-ok, digits-ok}
+use Rattle.scanner.specs.declared.Text.{Text}
+use Rattle.scanner.specs.declared.Scan.{Scan}
+use Rattle.scanner.specs.Scans.{byteAt, Found, Scans, found, unfit, digitsText, tell, valueTold, quotedTold}
+use Rattle.scanner.proofs.BytesAt.{expect-yes, expect-no, pair-there, pair-yes, pair-no}
+use Rattle.scanner.proofs.Numbers.{unfit-part, spelledSo, number-is, number-not}
+
+module _ (s : List ℕ) (at close : ℕ) (small : close < 256) where
+  abbrev Answers : Scan → Type 0
+  Answers r = Scans (λ l. quotedText l (byte "\"" ∷ close ∷ [])) (quotedTold at) s at r
+
+  pub quoted-colon : eqb (byteAt s at) (byte ":") ≡ false → Answers (Scan.Not 2)
+  unfolding quotedText
+  quoted-colon e = unfit 2 (λ l. rw (quotedText, expect-no l s at (byte ":") [] e))
+
+  module _ (colon : eqb (byteAt s at) (byte ":") ≡ true) where
+    pub quoted-not : (r : Scan) (c : ℕ) → Scans (digitsText numberLimit) valueTold s (at + 1) r → r ≡ Scan.Not c → Answers r
+    unfolding quotedText
+    quoted-not r c h e = unfit-part h e (λ l q. rw (quotedText, expect-yes l s at (byte ":") [] (lit< tt) colon, number-not l c (drop (at + 1) s) q))
+
+    module _ (run : Text) (n : Found (digitsText numberLimit) valueTold s (at + 1) run) where
+      -- what follows the length
+      abbrev rest : (l : ℕ) → List ℕ → Answer (Quoted × List ℕ)
+      rest l s₂ = do
+        s₃ ← expect l (bytes ":\"") s₂
+        _ ← require (leb (run .content) (length s₃)) 2 l
+        s₄ ← expect l (byte "\"" ∷ close ∷ []) (drop (run .content) s₃)
+        ok (record { spelling = record { zeros = n .what .0 }; text = take (run .content) s₃ }, s₄)
+
+      worth : n .what .1 ≡ run .content
+      worth = sym (ap (λ (u : Text). u .content) (n .tells))
+
+      opened : (l : ℕ) → quotedText l (byte "\"" ∷ close ∷ []) (drop at s) ≡ rest l (drop (run .next) s)
+      unfolding quotedText
+      opened l = rw (quotedText, expect-yes l s at (byte ":") [] (lit< tt) colon, number-is l (drop (at + 1) s) (n .what) (drop (run .next) s) (n .is l), worth)
+
+      pub quoted-quote : (eqb (byteAt s (run .next)) (byte ":") && eqb (byteAt s (run .next + 1)) (byte "\"")) ≡ false → Answers (Scan.Not 2)
+      quoted-quote e = unfit 2 (λ l. opened l ∙ rw (pair-no s (run .next) (byte ":") (byte "\"") l [] (lit< tt) e))
+
+      module _ (quote : (eqb (byteAt s (run .next)) (byte ":") && eqb (byteAt s (run .next + 1)) (byte "\"")) ≡ true) where
+        abbrev offset : ℕ
+        offset = run .next + 2
+
+        entered : (l : ℕ) → expect l (bytes ":\"") (drop (run .next) s) ≡ ok (drop offset s)
+        entered l = pair-yes s (run .next) (byte ":") (byte "\"") quote l [] (lit< tt) (lit< tt)
+
+        pub quoted-short : length s - offset < run .content → Answers (Scan.Not 2)
+        quoted-short h = unfit 2 (λ l. opened l ∙ rw (entered l, length-drop offset s, lt-leb (run .content) (length s - offset) h))
+
+        module _ (enough : run .content ≤ length s - offset) where
+          pub quoted-open : (eqb (byteAt s (offset + run .content)) (byte "\"") && eqb (byteAt s (offset + run .content + 1)) close) ≡ false → Answers (Scan.Not 2)
+          quoted-open e =
+              unfit 2 (λ l. opened l ∙ rw (entered l, length-drop offset s, le-leb (run .content) (length s - offset) enough, drop-drop (run .content) offset s, pair-no s (offset + run .content) (byte "\"") close l [] (lit< tt) e))
+
+          long : length (take (run .content) (drop offset s)) ≡ run .content
+          long = length-take-le (run .content) (drop offset s) (omega (arith, length-drop offset s))
+
+          -- the text begins where its length, a colon and a quote end
+          begins : offset ≡ at + 3 + length (writeNumber (record { zeros = n .what .0 }) (run .content) [])
+          begins = omega (arith, width)
+            where
+              split : drop (at + 1) s ≡ spelled (n .what .0) (n .what .1) ++ drop (run .next) s
+              split = digits-ok 0 numberLimit (drop (at + 1) s) (n .what, drop (run .next) s) (n .is 0) .text
+
+              width : run .next ≡ at + 1 + length (spelled (n .what .0) (run .content) ++ [])
+              width =
+                  let a = ap length split in
+                  let b = length-append (spelled (n .what .0) (n .what .1)) (drop (run .next) s) in
+                  let c = length-append (spelled (n .what .0) (run .content)) [] in
+                  let d = ap (λ (m : ℕ). length (spelled (n .what .0) m)) worth in
+                  omega (arith, a, b, c, d, length-drop (at + 1) s, length-drop (run .next) s, n .on, n .inside)
+
+          pub quoted-is : (w : ℕ) → w ≡ offset → (eqb (byteAt s (offset + run .content)) (byte "\"") && eqb (byteAt s (offset + run .content + 1)) close) ≡ true
+              → Answers (Scan.Is (tell w (run .content) 0 (offset + run .content + 2)))
+          quoted-is w z e =
+              let k : offset + run .content + 1 < length s = pair-there s (offset + run .content) (byte "\"") close e small in
+              found (tell w (run .content) 0 (offset + run .content + 2)) record {
+                what = record { spelling = record { zeros = n .what .0 }; text = take (run .content) (drop offset s) };
+                is = λ l.
+                    opened l ∙ rw (entered l, length-drop offset s, le-leb (run .content) (length s - offset) enough, drop-drop (run .content) offset s, pair-yes s (offset + run .content) (byte "\"") close e l [] (lit< tt) small);
+                tells = rw long (ap (λ (x : ℕ). tell x (run .content) 0 (offset + run .content + 2)) (z ∙ begins));
+                on = omega (arith, n .on);
+                inside = omega arith;
+              }

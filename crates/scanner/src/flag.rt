@@ -1,0 +1,48 @@
+// The semicolon of an N, the bit of a b. The index is the one behind the tag.
+use crate::Scan;
+use crate::Text;
+use crate::bytes::byte_is;
+use crate::bytes::bytes_are;
+ghost use Rattle.format.specs.Read.{boolText};
+ghost use Rattle.scanner.specs.Scans.{Scans, nullText, nothingTold, boolTold};
+
+// The semicolon of an N.
+pub fn null(source: &[u8], at: usize) -> Scan
+    ensures { λ r. ⌜ Scans nullText nothingTold (now (source .entry)) at r ⌝ }
+{
+    if !byte_is(source, at, b';') {
+        return Scan::Not(2);
+    }
+    Scan::Is(Text {
+        content: 0,
+        size: 0,
+        link: 0,
+        next: at + 1,
+    })
+}
+
+// The bit of a b.
+pub fn boolean(source: &[u8], at: usize) -> Scan
+    ensures { λ r. ⌜ Scans boolText boolTold (now (source .entry)) at r ⌝ }
+{
+    if !byte_is(source, at, b':') {
+        return Scan::Not(2);
+    }
+    if bytes_are(source, at + 1, b'0', b';') {
+        return Scan::Is(Text {
+            content: 0,
+            size: 0,
+            link: 0,
+            next: at + 3,
+        });
+    }
+    if bytes_are(source, at + 1, b'1', b';') {
+        return Scan::Is(Text {
+            content: 1,
+            size: 0,
+            link: 0,
+            next: at + 3,
+        });
+    }
+    Scan::Not(2)
+}

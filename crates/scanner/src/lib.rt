@@ -1,0 +1,20 @@
+// The texts behind a tag: what a text tells its value's node, or why it is none.
+pub mod bytes;
+pub mod flag;
+pub mod float;
+pub mod number;
+pub mod quoted;
+
+// What a text tells: words 2, 3 and 4 of the node, and the index after the text.
+pub struct Text {
+    pub content: u64,
+    pub size: u64,
+    pub link: u64,
+    pub next: usize,
+}
+
+// A text, or the number of its refusal; the position is the tag's, which the caller knows.
+pub enum Scan {
+    Is(Text),
+    Not(u8),
+}

@@ -1,0 +1,112 @@
+// Texts of digits: integers, counts of pairs, ordinals that a reference names. The index is the one behind the tag.
+use crate::Scan;
+use crate::Text;
+use crate::bytes::byte_is;
+use crate::bytes::bytes_are;
+ghost use mathlib.Core.Path.{_≡_};
+ghost use Prim.Native.Nat.{_-_, _<_, _^_};
+ghost use Rattle.format.specs.Read.{intText};
+ghost use Rattle.scanner.specs.Scans.{Scans, digitsText, signedText, countText, namedText, valueTold, integerTold, numberTold, countTold};
+
+// A run of digits of at most `top`: it "is taken whole, then 5 is tested".
+pub(crate) fn digits(source: &[u8], at: usize, top: u64) -> Scan
+    requires { ⌜ top < 2 ^ 64 - 1 ⌝ }
+    ensures { λ r. ⌜ Scans (digitsText top) valueTold (now (source .entry)) at r ⌝ }
+{
+    let run = decimal::run_at(source, at, top + 1);
+    let next = run.next;
+    let value = run.value;
+    if next == at {
+        return Scan::Not(2);
+    }
+    if top < value {
+        return Scan::Not(5);
+    }
+    Scan::Is(Text {
+        content: value,
+        size: 0,
+        link: 0,
+        next,
+    })
+}
+
+// The digits of an integer behind its sign, and the semicolon.
+fn magnitude(source: &[u8], at: usize, negative: bool, top: u64) -> Scan
+    requires { ⌜ top < 2 ^ 64 - 1 ⌝ }
+    ensures { λ r. ⌜ Scans (signedText top) (integerTold negative) (now (source .entry)) at r ⌝ }
+{
+    let scan = digits(source, at, top);
+    let Scan::Is(run) = scan else {
+        return scan;
+    };
+    let next = run.next;
+    if !byte_is(source, next, b';') {
+        return Scan::Not(2);
+    }
+    Scan::Is(Text {
+        content: decimal::pattern_of(negative, run.content),
+        size: 0,
+        link: 0,
+        next: next + 1,
+    })
+}
+
+// An integer.
+pub fn int(source: &[u8], at: usize) -> Scan
+    ensures { λ r. ⌜ Scans intText numberTold (now (source .entry)) at r ⌝ }
+{
+    if !byte_is(source, at, b':') {
+        return Scan::Not(2);
+    }
+    let from = at + 1;
+    if byte_is(source, from, b'+') {
+        return magnitude(source, from + 1, false, 9223372036854775807);
+    }
+    if byte_is(source, from, b'-') {
+        return magnitude(source, from + 1, true, 9223372036854775808);
+    }
+    magnitude(source, from, false, 9223372036854775807)
+}
+
+// A count of pairs and the opening brace, from behind the colon on.
+pub fn count(source: &[u8], at: usize) -> Scan
+    ensures { λ r. ⌜ Scans countText countTold (now (source .entry)) at r ⌝ }
+{
+    let scan = digits(source, at, 65536);
+    let Scan::Is(run) = scan else {
+        return scan;
+    };
+    let next = run.next;
+    if !bytes_are(source, next, b':', b'{') {
+        return Scan::Not(2);
+    }
+    Scan::Is(Text {
+        content: 0,
+        size: 0,
+        link: run.content,
+        next: next + 2,
+    })
+}
+
+// The ordinal that a reference names.
+pub fn named(source: &[u8], at: usize) -> Scan
+    ensures { λ r. ⌜ Scans namedText valueTold (now (source .entry)) at r ⌝ }
+{
+    if !byte_is(source, at, b':') {
+        return Scan::Not(2);
+    }
+    let scan = digits(source, at + 1, 65536);
+    let Scan::Is(run) = scan else {
+        return scan;
+    };
+    let next = run.next;
+    if !byte_is(source, next, b';') {
+        return Scan::Not(2);
+    }
+    Scan::Is(Text {
+        content: run.content,
+        size: 0,
+        link: 0,
+        next: next + 1,
+    })
+}

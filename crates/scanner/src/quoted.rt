@@ -1,0 +1,42 @@
+// Texts between quotes: of s, and O's class name. The index is the one behind the tag.
+use crate::Scan;
+use crate::Text;
+use crate::bytes::byte_is;
+use crate::bytes::bytes_are;
+use crate::number::digits;
+ghost use mathlib.Core.List.{[], _∷_};
+ghost use Rattle.format.specs.Bytes.{byte};
+ghost use Rattle.format.specs.Read.{quotedText};
+ghost use Rattle.scanner.specs.Scans.{Scans, quotedTold};
+
+// A length and so many bytes between quotes, "of any kind": the length alone says where they end.
+pub fn quoted(source: &[u8], at: usize, close: u8) -> Scan
+    ensures { λ r. ⌜ Scans (λ l. quotedText l (byte "\"" ∷ close ∷ [])) (quotedTold at) (now (source .entry)) at r ⌝ }
+{
+    if !byte_is(source, at, b':') {
+        return Scan::Not(2);
+    }
+    let scan = digits(source, at + 1, 65536);
+    let Scan::Is(run) = scan else {
+        return scan;
+    };
+    let colon = run.next;
+    if !bytes_are(source, colon, b':', b'"') {
+        return Scan::Not(2);
+    }
+    let offset = colon + 2;
+    let size = run.content as usize;
+    if source.len() - offset < size {
+        return Scan::Not(2);
+    }
+    let end = offset + size;
+    if !bytes_are(source, end, b'"', close) {
+        return Scan::Not(2);
+    }
+    Scan::Is(Text {
+        content: offset as u64,
+        size: run.content,
+        link: 0,
+        next: end + 2,
+    })
+}

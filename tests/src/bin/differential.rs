@@ -1,0 +1,108 @@
+//! Compares the library with the model on enumerated and generated plans, and tells what was reached.
+//!
+//! `--plans N` sets how many different plans are generated, `--seed N` from which seed. With
+//! `--seconds N` plans are only generated, from seed after seed, until the time is over.
+
+use std::process::ExitCode;
+use std::time::{Duration, Instant};
+use tonschnecke_tests::campaign::{self, Failure};
+use tonschnecke_tests::random::Random;
+use tonschnecke_tests::shrink::shrink;
+use tonschnecke_tests::statistics::{Report, Statistics};
+
+/// Seed of the gate's run.
+const DEFAULT_SEED: u64 = 20_240_229;
+/// Generated plans of the gate's run, and of each seed of a timed run.
+const DEFAULT_PLANS: u64 = 220_000;
+
+struct Settings {
+    seed: u64,
+    plans: u64,
+    seconds: Option<u64>,
+}
+
+fn main() -> ExitCode {
+    let Some(settings) = settings(std::env::args().skip(1)) else {
+        eprintln!("usage: differential [--seed N] [--plans N] [--seconds N]");
+        return ExitCode::from(2);
+    };
+    let start = Instant::now();
+    let mut generated = Statistics::default();
+    let mut enumerated = Statistics::default();
+    let outcome = run(&settings, &mut generated, &mut enumerated);
+    let report = Report {
+        generated: &generated,
+        enumerated: &enumerated,
+    };
+    print!("seed {}\n{report}", settings.seed);
+    println!("{:.1} seconds", start.elapsed().as_secs_f64());
+    match outcome {
+        Ok(()) => judge(&generated),
+        Err(failure) => {
+            explain(&failure);
+            ExitCode::FAILURE
+        }
+    }
+}
+
+/// The settings asked for; none if the arguments are not understood.
+fn settings(mut arguments: impl Iterator<Item = String>) -> Option<Settings> {
+    let mut settings = Settings {
+        seed: DEFAULT_SEED,
+        plans: DEFAULT_PLANS,
+        seconds: None,
+    };
+    while let Some(name) = arguments.next() {
+        let value = arguments.next()?.parse().ok()?;
+        match name.as_str() {
+            "--seed" => settings.seed = value,
+            "--plans" => settings.plans = value,
+            "--seconds" => settings.seconds = Some(value),
+            _ => return None,
+        }
+    }
+    Some(settings)
+}
+
+fn run(
+    settings: &Settings,
+    generated: &mut Statistics,
+    enumerated: &mut Statistics,
+) -> Result<(), Failure> {
+    let Some(seconds) = settings.seconds else {
+        campaign::enumerated(enumerated)?;
+        return campaign::generated(settings.seed, settings.plans, None, generated);
+    };
+    let deadline = Instant::now() + Duration::from_secs(seconds);
+    let mut seeds = Random::new(settings.seed);
+    while Instant::now() < deadline {
+        campaign::generated(seeds.word(), settings.plans, Some(deadline), generated)?;
+    }
+    Ok(())
+}
+
+/// Prints the plan on which the readers differ, then a shorter one if there is.
+fn explain(failure: &Failure) {
+    let source = &failure.source;
+    println!("MISMATCH on a plan of {} bytes", source.len());
+    println!("plan    {}\n{}", source.escape_ascii(), failure.mismatch);
+    let shortest = shrink(source, |shorter| campaign::mismatch(shorter).is_some());
+    let shorter = shortest.len() < source.len();
+    if let Some(mismatch) = campaign::mismatch(&shortest).filter(|_| shorter) {
+        println!("shrunk to {} bytes", shortest.len());
+        println!("plan    {}\n{mismatch}", shortest.escape_ascii());
+    }
+}
+
+/// The run counts only if the generated plans reached every refusal and every kind.
+fn judge(generated: &Statistics) -> ExitCode {
+    let missing = generated.missing();
+    for name in &missing {
+        println!("NOT REACHED: {name}");
+    }
+    if missing.is_empty() {
+        println!("library and model agree on every call");
+        return ExitCode::SUCCESS;
+    }
+    ExitCode::FAILURE
+}

@@ -1,0 +1,87 @@
+//! Plans at the limit of length, and containers with very many keys.
+
+use super::keys::{self, Keys};
+use crate::random::Random;
+
+/// Plans that can be made as long as wanted by repeating one byte: before, that byte, after.
+const STRETCHABLE: &[(&str, u8, &str)] = &[
+    ("i:", b'0', "7;"),
+    ("i:-", b'0', "9223372036854775808;"),
+    ("i:", b'0', "9223372036854775808;"),
+    ("i:1", b'0', ";"),
+    ("d:1.", b'3', "e5;"),
+    ("d:-1e+", b'9', ";"),
+    ("s:", b'0', "1:\"a\";"),
+    ("a:", b'0', "1:{i:0;R:1;}"),
+    ("a:1:{i:0;r:", b'0', "1;}"),
+    ("a:1:{i:0;R:", b'0', "2;}"),
+    ("a:2:{i:5;N;i:", b'0', "5;N;}"),
+    ("a:2:{i:5;N;s:1:\"5\";i:+", b'0', "5;}"),
+    ("O:", b'0', "1:\"X\":0:{}"),
+    ("O:1:\"X\":", b'0', "1:{s:1:\"x\";r:1;}"),
+];
+
+/// A plan of an exact length, most often at the limit of 65,536 bytes or one beyond.
+pub fn padded(random: &mut Random) -> Vec<u8> {
+    let any = random.between(9_000, 65_536);
+    let length = random.pick(&[
+        65_536, 65_536, 65_536, 65_535, 65_537, 65_537, 66_000, 131_072, any, any,
+    ]);
+    match random.below(3) {
+        0 => stretched(random, length),
+        1 => one_text(random, length),
+        _ => many_pairs(random, length),
+    }
+}
+
+fn stretched(random: &mut Random, length: usize) -> Vec<u8> {
+    let (before, filler, after) = random.pick(STRETCHABLE);
+    let filling = vec![filler; length - before.len() - after.len()];
+    [before.as_bytes(), &filling, after.as_bytes()].concat()
+}
+
+/// A string or class name that fills the plan. Its length is spelled with six digits always.
+fn one_text(random: &mut Random, length: usize) -> Vec<u8> {
+    let (before, after) = random.pick(&[
+        ("s:", ";"),
+        ("O:", ":0:{}"),
+        ("a:1:{i:0;s:", ";}"),
+        ("a:2:{s:", ";N;i:0;R:2;}"),
+    ]);
+    let text_len = length - before.len() - 6 - 3 - after.len();
+    let head = format!("{before}{text_len:06}:\"");
+    let text: Vec<u8> = (0..text_len).map(|_| random.byte()).collect();
+    [head.as_bytes(), &text, b"\"", after.as_bytes()].concat()
+}
+
+/// As many pairs with rising keys as fit; the count's leading zeros fill the rest.
+fn many_pairs(random: &mut Random, length: usize) -> Vec<u8> {
+    let value = random.pick(&["N;", "b:1;", "R:1;", "r:2;", "a:0:{}", "s:0:\"\";"]);
+    let mut pairs = String::from("i:-1;N;");
+    let mut count = 1;
+    while pairs.len() + 40 < length {
+        pairs += &format!("i:{};{value}", count - 1);
+        count += 1;
+    }
+    let tail = format!("{count}:{{{pairs}}}");
+    let zeros = "0".repeat(length - 2 - tail.len());
+    format!("a:{zeros}{tail}").into_bytes()
+}
+
+/// An array of many pairs whose keys do not rise, or repeat one near the end.
+pub fn crowded(random: &mut Random) -> Vec<u8> {
+    let count = random.between(1_000, 2_500);
+    let mut keys = Keys::crowded(random, count);
+    let mut plan = format!("a:{count}:{{").into_bytes();
+    let repeating = random.one_in(3);
+    for place in 0..count {
+        let again = keys
+            .repeated(random)
+            .filter(|_| repeating && place + 5 == count);
+        let key = again.unwrap_or_else(|| keys.fresh(random));
+        keys::write(random, &mut plan, &key);
+        plan.extend(b"N;");
+    }
+    plan.push(b'}');
+    plan
+}

@@ -1,0 +1,89 @@
+//! Seeded plans: valid ones, damaged ones, and noise.
+
+mod damage;
+mod faults;
+mod keys;
+mod long;
+mod noise;
+mod plan;
+mod spelling;
+
+pub use long::{crowded, padded};
+pub use plan::{write, Style};
+
+use crate::random::Random;
+
+/// The bytes that the format itself uses.
+pub const ALPHABET: &[u8] = b"NbidsaOrR:;{}\"0123456789+-.eEIFACoSU";
+
+/// One plan of any sort. The rare sorts are those that take long to read: many keys that do not
+/// rise make the library compare each with all before it.
+pub fn plan(random: &mut Random) -> Vec<u8> {
+    match random.below(10_000) {
+        0..=1 => crowded(random),
+        2..=9 => padded(random),
+        10..=29 => write(random, wide(0)),
+        30..=49 => write(random, wide(500)),
+        50..=3_499 => valid(random),
+        3_500..=6_499 => damaged(random),
+        6_500..=7_999 => faulty(random),
+        _ => noise::bytes(random),
+    }
+}
+
+/// A plan that reading accepts.
+pub fn valid(random: &mut Random) -> Vec<u8> {
+    let style = style(random);
+    write(random, style)
+}
+
+/// A valid plan with one mutation or several.
+fn damaged(random: &mut Random) -> Vec<u8> {
+    let mut bytes = valid(random);
+    for _ in 0..random.pick(&[1, 1, 1, 1, 2, 3, 6]) {
+        damage::once(random, &mut bytes);
+    }
+    bytes
+}
+
+/// A plan with wrong values and keys written in on purpose, or too deep.
+fn faulty(random: &mut Random) -> Vec<u8> {
+    let mut style = style(random);
+    style.wrong_values = random.pick(&[0, 0, 4, 10, 25]);
+    style.wrong_keys = random.pick(&[0, 2, 4, 10, 25]);
+    if style.spine {
+        style.depth = random.between(60, 68);
+    }
+    write(random, style)
+}
+
+fn style(random: &mut Random) -> Style {
+    let (nodes, depth, spine) = match random.below(100) {
+        0..=29 => (random.between(1, 4), 2, false),
+        30..=69 => (random.between(3, 14), 4, false),
+        70..=94 => (random.between(10, 60), 8, false),
+        95..=96 => (random.between(60, 200), 64, false),
+        97 => (random.between(1, 200), random.between(30, 63), true),
+        _ => (random.between(1, 200), 64, true),
+    };
+    Style {
+        nodes,
+        depth,
+        spine,
+        longest_text: random.pick(&[3, 12, 12, 40]),
+        wrong_values: 0,
+        wrong_keys: 0,
+    }
+}
+
+/// Hundreds of nodes and long texts; one value and one key in `faults` is wrong.
+fn wide(faults: usize) -> Style {
+    Style {
+        nodes: 700,
+        depth: 20,
+        spine: false,
+        longest_text: 60,
+        wrong_values: faults,
+        wrong_keys: faults,
+    }
+}

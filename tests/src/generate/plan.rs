@@ -1,0 +1,159 @@
+//! Writes one plan by the grammar, with faults only where they are asked for.
+
+use super::faults;
+use super::keys::{self, Keys};
+use super::spelling;
+use crate::random::Random;
+
+/// What a plan should look like.
+#[derive(Clone, Copy)]
+pub struct Style {
+    /// About how many nodes.
+    pub nodes: usize,
+    /// Depth of the deepest containers.
+    pub depth: usize,
+    /// Whether one path leads down to that depth for certain.
+    pub spine: bool,
+    pub longest_text: usize,
+    /// One value in so many is wrong; 0 for none.
+    pub wrong_values: usize,
+    /// One key in so many is wrong or repeats another; 0 for none.
+    pub wrong_keys: usize,
+}
+
+/// A plan in this style, accepted by reading if it is without faults and not too deep.
+pub fn write(random: &mut Random, style: Style) -> Vec<u8> {
+    let mut writer = Writer {
+        random,
+        style,
+        out: Vec::new(),
+        ordinals: 0,
+        left: style.nodes,
+    };
+    writer.value(1, style.spine);
+    writer.out
+}
+
+struct Writer<'r> {
+    random: &'r mut Random,
+    style: Style,
+    out: Vec<u8>,
+    ordinals: usize,
+    /// Nodes that may still be spent on containers' contents.
+    left: usize,
+}
+
+impl Writer<'_> {
+    fn value(&mut self, depth: usize, spine: bool) {
+        self.left = self.left.saturating_sub(1);
+        if self.falls_on(self.style.wrong_values) {
+            faults::value(self.random, &mut self.out, self.ordinals);
+            return;
+        }
+        let chances = if depth == 1 { 10 } else { 3 };
+        let inner = depth < self.style.depth;
+        if inner && spine {
+            self.container(depth, true);
+        } else if inner && self.left >= 2 && (self.random.one_in(3) || !self.random.one_in(chances))
+        {
+            self.container(depth, false);
+        } else {
+            self.leaf();
+        }
+    }
+
+    fn falls_on(&mut self, chances: usize) -> bool {
+        chances > 0 && self.random.one_in(chances)
+    }
+
+    fn container(&mut self, depth: usize, spine: bool) {
+        self.ordinals += 1;
+        let most = (self.left / 2).max(1);
+        let few = most.min(self.random.pick(&[2, 5, 12, most]));
+        let count = self.random.between(usize::from(spine), few);
+        let object = self.random.one_in(3) && count <= 400;
+        let keys = if object {
+            Keys::of_object(self.random, count)
+        } else {
+            Keys::of_array(self.random, count)
+        };
+        self.head(object, count);
+        let spine = spine.then(|| self.random.below(count));
+        self.pairs(depth, count, keys, spine);
+        self.out.push(b'}');
+    }
+
+    fn head(&mut self, object: bool, count: usize) {
+        if object {
+            self.out.extend(b"O:");
+            let class = spelling::text(self.random, self.style.longest_text);
+            spelling::quoted(self.random, &mut self.out, &class);
+            self.out.push(b':');
+        } else {
+            self.out.extend(b"a:");
+        }
+        spelling::number(self.random, &mut self.out, count);
+        self.out.extend(b":{");
+    }
+
+    /// Writes `count` pairs; the one at place `spine` leads further down.
+    fn pairs(&mut self, depth: usize, count: usize, mut keys: Keys, spine: Option<usize>) {
+        for place in 0..count {
+            self.left = self.left.saturating_sub(1);
+            let repeated = keys.repeated(self.random);
+            match repeated {
+                _ if !self.falls_on(self.style.wrong_keys) => {
+                    let key = keys.fresh(self.random);
+                    keys::write(self.random, &mut self.out, &key);
+                }
+                Some(key) if !self.random.one_in(4) => {
+                    keys::write(self.random, &mut self.out, &key);
+                }
+                _ => faults::key(self.random, &mut self.out),
+            }
+            self.value(depth + 1, spine == Some(place));
+        }
+    }
+
+    /// A value that holds nothing: a scalar, a reference or an empty container.
+    fn leaf(&mut self) {
+        let earlier = self.ordinals;
+        let tag = match earlier {
+            0 => self.random.pick(b"NbidsaO"),
+            _ => self.random.pick(b"NbidsaOrrRR"),
+        };
+        self.ordinals += usize::from(tag != b'R');
+        if matches!(tag, b'a' | b'O') {
+            self.head(tag == b'O', 0);
+            self.out.push(b'}');
+            return;
+        }
+        self.out.push(tag);
+        if tag != b'N' {
+            self.out.push(b':');
+            self.leaf_text(tag, earlier);
+        }
+        self.out.push(b';');
+    }
+
+    fn leaf_text(&mut self, tag: u8, earlier: usize) {
+        let random = &mut *self.random;
+        match tag {
+            b'b' => self.out.push(random.pick(b"01")),
+            b'i' => {
+                let value = spelling::any_integer(random);
+                spelling::integer(random, &mut self.out, value);
+            }
+            b'd' => spelling::float(random, &mut self.out),
+            b's' => {
+                let text = spelling::text(random, self.style.longest_text);
+                spelling::quoted(random, &mut self.out, &text);
+            }
+            _ => {
+                let any = random.between(1, earlier);
+                let ordinal = random.pick(&[any, any, 1, earlier]);
+                spelling::number(random, &mut self.out, ordinal);
+            }
+        }
+    }
+}

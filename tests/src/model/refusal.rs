@@ -1,0 +1,30 @@
+//! The refusals of reading, by the paper's numbers.
+
+/// Rows 1 to 10 of "What is refused, and the order".
+#[derive(Clone, Copy, Debug, PartialEq, Eq)]
+pub enum Code {
+    TooLong = 1,
+    Malformed = 2,
+    UnknownTag = 3,
+    UnfitKeyTag = 4,
+    OutOfRange = 5,
+    UnknownOrdinal = 6,
+    NoCapacity = 7,
+    TooDeep = 8,
+    EqualKey = 9,
+    Trailing = 10,
+}
+
+impl Code {
+    /// This refusal at a position of the source.
+    pub fn at(self, at: usize) -> Refusal {
+        Refusal { code: self, at }
+    }
+}
+
+/// Why a plan is refused, and where.
+#[derive(Clone, Copy, Debug, PartialEq, Eq)]
+pub struct Refusal {
+    pub code: Code,
+    pub at: usize,
+}

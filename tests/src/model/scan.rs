@@ -1,0 +1,117 @@
+//! The texts of the grammar: literals, runs of digits, quoted bytes, float texts.
+
+use super::float::is_float_text;
+use super::refusal::Code;
+use super::value::Span;
+
+/// "*Number* below means digits without sign, of value at most 65,536."
+const LARGEST_NUMBER: u64 = 65_536;
+
+/// A place in the source, moving to the right.
+pub struct Scanner<'a> {
+    source: &'a [u8],
+    position: usize,
+}
+
+impl<'a> Scanner<'a> {
+    pub fn new(source: &'a [u8]) -> Self {
+        Scanner {
+            source,
+            position: 0,
+        }
+    }
+
+    pub fn position(&self) -> usize {
+        self.position
+    }
+
+    pub fn rest(&self) -> &'a [u8] {
+        &self.source[self.position..]
+    }
+
+    pub fn bytes(&self, span: Span) -> &'a [u8] {
+        &self.source[span.offset..span.offset + span.length]
+    }
+
+    /// Exactly these bytes.
+    pub fn literal(&mut self, bytes: &[u8]) -> Result<(), Code> {
+        if !self.rest().starts_with(bytes) {
+            return Err(Code::Malformed);
+        }
+        self.position += bytes.len();
+        Ok(())
+    }
+
+    /// A number: a count, a length or an ordinal named.
+    pub fn number(&mut self) -> Result<usize, Code> {
+        match magnitude(self.digits()?) {
+            Some(value) if value <= LARGEST_NUMBER => Ok(value as usize),
+            _ => Err(Code::OutOfRange),
+        }
+    }
+
+    /// An integer of 64 bits with its optional sign.
+    pub fn integer(&mut self) -> Result<i64, Code> {
+        let negative = self.rest().first() == Some(&b'-');
+        if negative || self.rest().first() == Some(&b'+') {
+            self.position += 1;
+        }
+        let magnitude = magnitude(self.digits()?).ok_or(Code::OutOfRange)?;
+        let value = if negative {
+            -i128::from(magnitude)
+        } else {
+            i128::from(magnitude)
+        };
+        i64::try_from(value).map_err(|_| Code::OutOfRange)
+    }
+
+    /// Number, `:"`, that many bytes of any kind, `"`.
+    pub fn quoted(&mut self) -> Result<Span, Code> {
+        let length = self.number()?;
+        self.literal(b":\"")?;
+        if self.rest().len() < length {
+            return Err(Code::Malformed);
+        }
+        let span = self.take(length);
+        self.literal(b"\"")?;
+        Ok(span)
+    }
+
+    /// All up to the next `;`, which no float text contains.
+    pub fn float(&mut self) -> Result<Span, Code> {
+        let end = self.rest().iter().position(|&byte| byte == b';');
+        let length = end.ok_or(Code::Malformed)?;
+        if !is_float_text(&self.rest()[..length]) {
+            return Err(Code::Malformed);
+        }
+        Ok(self.take(length))
+    }
+
+    /// "A run of digits is taken whole, then 5 is tested, then the next byte."
+    fn digits(&mut self) -> Result<&'a [u8], Code> {
+        let run = self.rest().iter().take_while(|byte| byte.is_ascii_digit());
+        let span = match run.count() {
+            0 => return Err(Code::Malformed),
+            length => self.take(length),
+        };
+        Ok(self.bytes(span))
+    }
+
+    fn take(&mut self, length: usize) -> Span {
+        let offset = self.position;
+        self.position += length;
+        Span { offset, length }
+    }
+}
+
+/// The value of a run of digits; none for more than 19 digits that count, which is above every
+/// range of the format and might be above 64 bits.
+fn magnitude(digits: &[u8]) -> Option<u64> {
+    let zeros = digits.iter().take_while(|&&digit| digit == b'0').count();
+    let significant = &digits[zeros..];
+    (significant.len() <= 19).then(|| {
+        significant
+            .iter()
+            .fold(0, |value, digit| value * 10 + u64::from(digit - b'0'))
+    })
+}

@@ -1,0 +1,39 @@
+//! The generator keeps what its parts promise, so that the run's plans are what they are counted as.
+
+use tonschnecke_tests::generate;
+use tonschnecke_tests::model;
+use tonschnecke_tests::random::Random;
+
+#[test]
+fn valid_plans_are_accepted() {
+    let mut random = Random::new(1);
+    for _ in 0..20_000 {
+        let plan = generate::valid(&mut random);
+        let answer = model::read(&plan, usize::MAX);
+        assert!(answer.is_ok(), "{:?}: {}", answer, plan.escape_ascii());
+    }
+}
+
+#[test]
+fn a_seed_repeats_its_plans() {
+    let plans = |seed| {
+        let mut random = Random::new(seed);
+        (0..500)
+            .map(|_| generate::plan(&mut random))
+            .collect::<Vec<_>>()
+    };
+    assert_eq!(plans(7), plans(7));
+    assert_ne!(plans(7), plans(8));
+}
+
+#[test]
+fn padded_plans_reach_the_limit_of_length() {
+    let mut random = Random::new(1);
+    let plans: Vec<_> = (0..300).map(|_| generate::padded(&mut random)).collect();
+    let accepted_at_limit = plans
+        .iter()
+        .filter(|plan| plan.len() == 65_536)
+        .any(|plan| model::read(plan, usize::MAX).is_ok());
+    assert!(accepted_at_limit);
+    assert!(plans.iter().any(|plan| plan.len() == 65_537));
+}

@@ -1,0 +1,141 @@
+//! The model against what the paper says, written by hand.
+
+use tonschnecke_tests::cases::{self, Expected};
+use tonschnecke_tests::model::{self, Row};
+
+/// Reads with ample room and checks the ordinals and every row.
+fn assert_table(source: &str, ordinals: usize, rows: &[Row]) {
+    let table = model::read(source.as_bytes(), 100).expect(source);
+    assert_eq!(
+        (table.ordinals, table.rows.as_slice()),
+        (ordinals, rows),
+        "{source}"
+    );
+}
+
+/// The index of the node that the reference at `node` names.
+fn named_by(source: &str, node: usize) -> u64 {
+    let table = model::read(source.as_bytes(), 100).expect(source);
+    table.rows[node][4]
+}
+
+#[test]
+fn every_case_has_the_answer_written_by_hand() {
+    for case in cases::all() {
+        let answer = match model::read(&case.source, case.capacity) {
+            Ok(table) => Expected::Accepted {
+                nodes: table.rows.len() as u64,
+                ordinals: table.ordinals as u64,
+            },
+            Err(refusal) => Expected::Refused {
+                code: refusal.code as u64,
+                at: refusal.at as u64,
+            },
+        };
+        let shown = case.source.escape_ascii();
+        assert_eq!(
+            answer, case.expected,
+            "{shown} with room for {}",
+            case.capacity
+        );
+    }
+}
+
+#[test]
+fn tables_that_the_paper_gives_whole() {
+    assert_table(
+        "a:1:{i:0;N;}",
+        2,
+        &[
+            [97, 1, 0, 0, 1, 3],
+            [105, 0, 0, 0, 0, 2],
+            [78, 2, 0, 0, 0, 3],
+        ],
+    );
+    assert_table("s:5:\"basin\";", 1, &[[115, 1, 5, 5, 0, 1]]);
+    assert_table("i:-1;", 1, &[[105, 1, 18446744073709551615, 0, 0, 1]]);
+}
+
+#[test]
+fn scalars_fill_their_words() {
+    assert_table("N;", 1, &[[78, 1, 0, 0, 0, 1]]);
+    assert_table("b:0;", 1, &[[98, 1, 0, 0, 0, 1]]);
+    assert_table("b:1;", 1, &[[98, 1, 1, 0, 0, 1]]);
+    assert_table("i:+007;", 1, &[[105, 1, 7, 0, 0, 1]]);
+    assert_table("i:-0;", 1, &[[105, 1, 0, 0, 0, 1]]);
+    assert_table("i:-9223372036854775808;", 1, &[[105, 1, 1 << 63, 0, 0, 1]]);
+    assert_table(
+        "i:9223372036854775807;",
+        1,
+        &[[105, 1, (1 << 63) - 1, 0, 0, 1]],
+    );
+    assert_table("d:-1.5e3;", 1, &[[100, 1, 2, 6, 0, 1]]);
+    assert_table("s:002:\"\";\";", 1, &[[115, 1, 7, 2, 0, 1]]);
+}
+
+/// Reading 7: "An empty text has an offset too".
+#[test]
+fn empty_texts_have_offsets() {
+    assert_table("s:0:\"\";", 1, &[[115, 1, 5, 0, 0, 1]]);
+    assert_table("O:0:\"\":0:{}", 1, &[[79, 1, 5, 0, 0, 1]]);
+}
+
+#[test]
+fn references_resolve_as_the_paper_says() {
+    assert_eq!(named_by("a:4:{i:0;i:7;i:1;R:2;i:2;i:9;i:3;R:3;}", 8), 6);
+    assert_eq!(named_by("a:4:{i:0;i:7;i:1;r:2;i:2;i:9;i:3;R:3;}", 8), 4);
+    let day =
+        "O:3:\"Day\":4:{s:3:\"air\";i:40;s:4:\"self\";r:1;s:4:\"open\";b:1;s:4:\"copy\";R:4;}";
+    assert_eq!(named_by(day, 4), 0);
+    assert_eq!(named_by(day, 8), 6);
+    // The insertion's own examples: the value named before is named after.
+    assert_eq!(named_by("a:3:{i:0;d:1.5;i:1;d:2.5;i:2;R:3;}", 6), 4);
+    assert_eq!(
+        named_by("a:4:{i:0;d:1.5;i:59;d:2;i:1;d:2.5;i:2;R:4;}", 8),
+        6
+    );
+}
+
+#[test]
+fn an_object_with_all_that_it_may_hold() {
+    assert_table(
+        "O:3:\"Day\":4:{s:3:\"air\";i:40;s:4:\"self\";r:1;s:4:\"open\";b:1;s:4:\"copy\";R:4;}",
+        4,
+        &[
+            [79, 1, 5, 3, 4, 9],
+            [115, 0, 18, 3, 0, 2],
+            [105, 2, 40, 0, 0, 3],
+            [115, 0, 33, 4, 0, 4],
+            [114, 3, 1, 0, 0, 5],
+            [115, 0, 48, 4, 0, 6],
+            [98, 4, 1, 0, 0, 7],
+            [115, 0, 63, 4, 0, 8],
+            [82, 0, 4, 0, 6, 9],
+        ],
+    );
+}
+
+#[test]
+fn nested_containers_and_a_reference_to_an_open_one() {
+    assert_table(
+        "a:2:{s:1:\"x\";a:1:{i:-1;R:2;}i:1;r:2;}",
+        3,
+        &[
+            [97, 1, 0, 0, 2, 7],
+            [115, 0, 10, 1, 0, 2],
+            [97, 2, 0, 0, 1, 5],
+            [105, 0, u64::MAX, 0, 0, 4],
+            [82, 0, 2, 0, 2, 5],
+            [105, 0, 1, 0, 0, 6],
+            [114, 3, 2, 0, 2, 7],
+        ],
+    );
+}
+
+/// "It may name an r; it then resolves to that r, one step only."
+#[test]
+fn a_reference_to_an_r_stops_there() {
+    let source = "a:3:{i:0;N;i:1;r:2;i:2;R:3;}";
+    assert_eq!(named_by(source, 4), 2);
+    assert_eq!(named_by(source, 6), 4);
+}
