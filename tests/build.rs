@@ -1,4 +1,5 @@
 //! Links the archive under test: `libtonschnecke.a` in `TONSCHNECKE_LIB_DIR`, else in `../build`.
+//! A relative folder counts from this file's own.
 
 use std::env;
 use std::path::PathBuf;

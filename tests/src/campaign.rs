@@ -2,13 +2,15 @@
 
 use crate::compare::{self, Mismatch};
 use crate::memory::Setting;
-use crate::model;
+use crate::model::{self, Survey};
 use crate::random::Random;
 use crate::statistics::Statistics;
 use crate::{enumerate, generate, lengths};
 use std::collections::hash_map::DefaultHasher;
 use std::collections::HashSet;
+use std::fs;
 use std::hash::{Hash, Hasher};
+use std::path::PathBuf;
 use std::time::Instant;
 
 const SETTINGS: [Setting; 2] = [Setting::Alone, Setting::Surrounded];
@@ -19,58 +21,87 @@ pub struct Failure {
     pub mismatch: Box<Mismatch>,
 }
 
-/// Compares every enumerated plan.
-pub fn enumerated(statistics: &mut Statistics) -> Result<(), Failure> {
-    let mut met = Met::default();
-    enumerate::all(&mut |source| {
-        if !met.is_new(source) {
-            return Ok(());
+/// Compares plans and counts what they reach.
+#[derive(Default)]
+pub struct Campaign {
+    pub statistics: Statistics,
+    /// Where each plan is kept before it is read: the only trace of one that ends the process.
+    last_plan: Option<PathBuf>,
+    /// Hashes of the plans met, so that none is counted twice.
+    met: HashSet<u64>,
+}
+
+impl Campaign {
+    /// A campaign that keeps each plan in the file `last_plan`, if there is one.
+    pub fn new(last_plan: Option<PathBuf>) -> Self {
+        Campaign {
+            last_plan,
+            ..Campaign::default()
+        }
+    }
+
+    /// Compares every enumerated plan.
+    pub fn enumerate(&mut self) -> Result<(), Failure> {
+        enumerate::all(&mut |source| {
+            let Some(survey) = self.take_up(source) else {
+                return Ok(());
+            };
+            let lengths = lengths::few(&survey, source.len());
+            self.compare(source, &lengths)
+        })
+    }
+
+    /// Compares `plans` different plans generated from one seed, or fewer if the time is over.
+    pub fn generate(
+        &mut self,
+        seed: u64,
+        plans: u64,
+        deadline: Option<Instant>,
+    ) -> Result<(), Failure> {
+        let mut random = Random::new(seed);
+        let wanted = self.statistics.plans + plans;
+        while self.statistics.plans < wanted && deadline.is_none_or(|end| Instant::now() < end) {
+            let source = generate::plan(&mut random);
+            if let Some(survey) = self.take_up(&source) {
+                let lengths = lengths::around(&survey, source.len(), &mut random);
+                self.compare(&source, &lengths)?;
+            }
+        }
+        Ok(())
+    }
+
+    /// Forgets the plans met: a timed run has more of them than memory should hold.
+    pub fn forget(&mut self) {
+        self.met.clear();
+    }
+
+    /// The model's answer to a new plan where no room is wanting; none for a plan met before.
+    fn take_up(&mut self, source: &[u8]) -> Option<Survey> {
+        let mut hasher = DefaultHasher::new();
+        source.hash(&mut hasher);
+        if !self.met.insert(hasher.finish()) {
+            return None;
+        }
+        if let Some(path) = &self.last_plan {
+            fs::write(path, source).expect("the file for the last plan can be written");
         }
         let survey = model::survey(source, usize::MAX);
-        statistics.count_plan(source, &survey);
-        let lengths = lengths::few(&survey, source.len());
-        compare_plan(source, &lengths, statistics)
-    })
-}
+        self.statistics.count_plan(source, &survey);
+        Some(survey)
+    }
 
-/// Compares `plans` different plans generated from one seed, or fewer if the time is over.
-pub fn generated(
-    seed: u64,
-    plans: u64,
-    deadline: Option<Instant>,
-    statistics: &mut Statistics,
-) -> Result<(), Failure> {
-    let mut random = Random::new(seed);
-    let mut met = Met::default();
-    let wanted = statistics.plans + plans;
-    while statistics.plans < wanted && deadline.is_none_or(|end| Instant::now() < end) {
-        let source = generate::plan(&mut random);
-        if !met.is_new(&source) {
-            continue;
+    /// Reads the plan with a table of each length, in both settings by turns.
+    fn compare(&mut self, source: &[u8], lengths: &[usize]) -> Result<(), Failure> {
+        for (&table_len, setting) in lengths.iter().zip(SETTINGS.into_iter().cycle()) {
+            let compared = compare::read_both(source, table_len, setting);
+            let answer = compared.map_err(|mismatch| Failure {
+                source: source.to_vec(),
+                mismatch,
+            })?;
+            self.statistics.count_call(&answer);
         }
-        let survey = model::survey(&source, usize::MAX);
-        statistics.count_plan(&source, &survey);
-        let lengths = lengths::around(&survey, source.len(), &mut random);
-        compare_plan(&source, &lengths, statistics)?;
+        Ok(())
     }
-    Ok(())
-}
-
-/// Reads the plan with a table of each length, in both settings by turns.
-fn compare_plan(
-    source: &[u8],
-    lengths: &[usize],
-    statistics: &mut Statistics,
-) -> Result<(), Failure> {
-    for (&table_len, setting) in lengths.iter().zip(SETTINGS.into_iter().cycle()) {
-        let compared = compare::read_both(source, table_len, setting);
-        let answer = compared.map_err(|mismatch| Failure {
-            source: source.to_vec(),
-            mismatch,
-        })?;
-        statistics.count_call(&answer);
-    }
-    Ok(())
 }
 
 /// The first mismatch among all tables worth trying, for the search after a shorter plan.
@@ -80,18 +111,4 @@ pub fn mismatch(source: &[u8]) -> Option<Box<Mismatch>> {
         .into_iter()
         .flat_map(|length| SETTINGS.map(|setting| compare::read_both(source, length, setting)))
         .find_map(Result::err)
-}
-
-/// The plans met, by their hashes, so that none is counted twice.
-#[derive(Default)]
-struct Met {
-    hashes: HashSet<u64>,
-}
-
-impl Met {
-    fn is_new(&mut self, source: &[u8]) -> bool {
-        let mut hasher = DefaultHasher::new();
-        source.hash(&mut hasher);
-        self.hashes.insert(hasher.finish())
-    }
 }

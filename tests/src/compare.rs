@@ -48,7 +48,7 @@ pub fn read_both(
 }
 
 /// The answer as the library returns it: a refusal has no counts, an acceptance no position.
-pub fn reading(answer: &Answer) -> Reading {
+fn reading(answer: &Answer) -> Reading {
     match answer {
         Ok(table) => Reading {
             code: 0,

@@ -35,10 +35,11 @@ pub fn around(survey: &Survey, source_len: usize, random: &mut Random) -> Vec<us
     lengths
 }
 
-/// The few lengths for plans that come by the hundred thousand: one that suffices, one that does not.
+/// The few lengths for plans that come by the hundred thousand: two that suffice, so that both
+/// settings of the source meet one, and one that does not.
 pub fn few(survey: &Survey, source_len: usize) -> Vec<usize> {
     let enough = survey.nodes_met * WORDS;
-    let mut lengths = vec![enough + source_len % WORDS];
+    let mut lengths = vec![enough, enough + source_len % WORDS];
     if survey.nodes_met > 0 {
         lengths.push(enough - 1);
     }

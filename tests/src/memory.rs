@@ -8,9 +8,10 @@ use std::ops::Range;
 /// Guard words before and after the table.
 pub const GUARD: usize = 16;
 
-/// What a word holds before the call: never zero, and different for each word.
+/// What a word holds before the call: never zero, and different for each word, since multiplying by
+/// an odd number permutes the 64-bit words.
 pub fn pattern(index: usize) -> u64 {
-    (index as u64 + 1).wrapping_mul(0x9E37_79B9_7F4A_7C15) | 1
+    (index as u64 + 1).wrapping_mul(0x9E37_79B9_7F4A_7C15)
 }
 
 /// A table of `length` words with its guards, every word filled with its pattern.

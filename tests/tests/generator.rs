@@ -1,4 +1,4 @@
-//! The generator keeps what its parts promise, so that the run's plans are what they are counted as.
+//! The generator keeps what its parts promise, so that the plans are what they are counted as.
 
 use tonschnecke_tests::generate;
 use tonschnecke_tests::model;

@@ -1,7 +1,7 @@
 -- What reading accepts is the print of a syntax that fits. Assumes nothing.
 use mathlib.Core.Path.{_≡_, refl, sym, ap, _∙_, subst}
 use mathlib.Core.List.{List, [], _∷_}
-use mathlib.Core.Bool.{not}
+use mathlib.Core.Bool.{Bool, true, false, not}
 use Prim.Native.Nat.{ℕ, zero, suc, _+_, _-_, _≤_, _<_}
 use native.Mathlib.Omega.{arith}
 use lib.Dec.{T, ltb, leb, ltb→lt, leb→le}
@@ -179,6 +179,14 @@ module _ (set : Setting) where
       rw (tag-ok kinds 3 l s (a .0) (a .1) .text)
       (body-ok (readValue set d) d (λ t b′ s′ q′ e′. value-ok d t b′ s′ q′ e′) (a .0 .0) l seen before (a .0 .1) q
       (ltb→lt before (set .capacity) (require-ok (ltb before (set .capacity)) 7 l (b .0) (b .1))) (b .2))
+
+  -- what was read of a key or a value is what was written
+  pub key-written : (ofArray : Bool) (earlier : List Key) (before : ℕ) (s : List ℕ) (q : Key × List ℕ) → readKey set ofArray earlier before s ≡ ok q → s ≡ writeKey (q .0) (q .1)
+  key-written true earlier before s q e = key-ok array earlier before s q e .text
+  key-written false earlier before s q e = key-ok (object (record { spelling = record { zeros = 0 }; text = [] })) earlier before s q e .text
+
+  pub value-written : (d : ℕ) (seen : Seen) (before : ℕ) (s : List ℕ) (q : Value × List ℕ) → readValue set d seen before s ≡ ok q → s ≡ write (q .0) (q .1)
+  value-written d seen before s q e = value-ok d seen before s q e .text
 
 -- WHAT IS ACCEPTED FITS: it is the print of what was read.
 pub read-ok : (capacity : ℕ) (source : List ℕ) (v : Value) → read capacity source ≡ ok v → IsPlan capacity source v

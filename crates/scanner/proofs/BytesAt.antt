@@ -12,7 +12,7 @@ use lib.Seq.{drop-cons}
 use borrow.Author.Tests.{ne-eqb, eq-eqb, eqb-true, eqb-false}
 use Rattle.decimal.proofs.Decide.{Order, below, above, order, Test, passed, failed, test}
 use Rattle.format.specs.Bytes.{sameBytes}
-use Rattle.format.specs.Answer.{Answer, ok, refused}
+use Rattle.format.specs.Answer.{refused}
 use Rattle.format.specs.Read.{expect}
 use Rattle.scanner.specs.Scans.{byteAt}
 

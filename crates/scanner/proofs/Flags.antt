@@ -1,5 +1,5 @@
 -- Laws of the texts of N and b. Assumes nothing.
-use Prim.Native.Nat.{ℕ, _+_, _≤_, _<_}
+use Prim.Native.Nat.{ℕ, _+_, _<_}
 use native.Mathlib.Omega.{arith}
 use mathlib.Core.Path.{_≡_, refl, sym, ap, _∙_}
 use mathlib.Core.Bool.{Bool, true, false, _&&_, _||_}
@@ -11,7 +11,6 @@ use Rattle.decimal.proofs.Decide.{Order, below, above, order, Test, passed, fai
 use Rattle.format.specs.Bytes.{byte, bytes, sameBytes}
 use Rattle.format.specs.Answer.{Answer, ok, refused, _>>=_, require}
 use Rattle.format.specs.Read.{expect, boolText}
-use Rattle.scanner.specs.declared.Text.{Text}
 use Rattle.scanner.specs.declared.Scan.{Scan}
 use Rattle.scanner.specs.Scans.{byteAt, Scans, found, unfit, nullText, tell, nothingTold, boolTold}
 use Rattle.scanner.proofs.BytesAt.{byte-in, byte-there, drop-byte, expect-yes, expect-no, pair-first, pair-second, pair-there}

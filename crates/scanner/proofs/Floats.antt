@@ -1,9 +1,9 @@
 -- Laws of float texts. Assumes nothing.
-use Prim.Native.Nat.{ℕ, suc, zero, _+_, _-_, _*_, _≤_, _<_}
+use Prim.Native.Nat.{ℕ, suc, _+_, _-_, _≤_, _<_}
 use native.Mathlib.Numerals.{add-one}
 use native.Mathlib.Omega.{arith}
-use mathlib.Core.Path.{_≡_, refl, sym, ap, _∙_, subst}
-use mathlib.Core.Bool.{Bool, true, false, _&&_, _||_, and-false}
+use mathlib.Core.Path.{_≡_, sym, ap, _∙_}
+use mathlib.Core.Bool.{true, false, _&&_, _||_}
 use mathlib.Core.List.{List, [], _∷_, _++_, append-assoc, append-nil}
 use mathlib.Core.Logic.{_⊎_, inl, inr, ⊎-elim}
 use lib.Dec.{eqb, ltb, lit<}
@@ -17,9 +17,8 @@ use Rattle.decimal.proofs.Decide.{Order, below, above, order}
 use Rattle.format.specs.Bytes.{byte, bytes, isEmpty, sameBytes}
 use Rattle.format.specs.Syntax.{Sign}
 use Rattle.format.specs.Limits.{signOf, isFloat, isDecimal, isExponent, fractionOf}
-use Rattle.format.specs.Answer.{Answer, ok, refused, _>>=_, require}
+use Rattle.format.specs.Answer.{Answer, ok, require, _>>=_}
 use Rattle.format.specs.Read.{expect, until, floatText}
-use Rattle.scanner.specs.declared.Text.{Text}
 use Rattle.scanner.specs.declared.Scan.{Scan}
 use Rattle.scanner.specs.Scans.{byteAt, Scans, found, unfit, tell, floatTold, SignEnd, SemicolonAt}
 use Rattle.scanner.proofs.BytesAt.{byte-there, drop-byte, byte-other, expect-yes, expect-no}

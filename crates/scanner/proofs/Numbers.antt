@@ -1,14 +1,14 @@
 -- Laws of the texts of digits. Assumes nothing.
-use Prim.Native.Nat.{ℕ, suc, zero, _+_, _-_, _*_, _≤_, _<_, min}
+use Prim.Native.Nat.{ℕ, suc, zero, _+_, _-_, _≤_, _<_}
 use native.Mathlib.Omega.{arith}
 use mathlib.Core.Path.{_≡_, refl, sym, ap, _∙_, subst}
 use mathlib.Core.Bool.{Bool, true, false, _&&_}
-use mathlib.Core.List.{List, [], _∷_, _++_}
+use mathlib.Core.List.{List, []}
 use lib.Dec.{eqb, lit<}
-use lib.ListN.{length, getD, drop, length-drop, length-append, drop-of-length-le}
+use lib.ListN.{length, drop, length-drop, length-append, drop-of-length-le}
 use lib.Seq.{drop-cons, drop-drop, drop-append-seam}
-use borrow.Author.Tests.{le-leb, lt-leb, lt-ltb, le-ltb, eq-eqb, ne-eqb}
-use Rattle.decimal.specs.Digits.{digitsOf, afterDigits, value, decimal, spelled}
+use borrow.Author.Tests.{le-leb, lt-leb, lt-ltb, le-ltb}
+use Rattle.decimal.specs.Digits.{digitsOf, afterDigits, value, decimal}
 use Rattle.decimal.specs.Complement.{pattern}
 use Rattle.decimal.specs.Promise.{RunAt}
 use Rattle.decimal.specs.declared.Run.{Run}
@@ -16,9 +16,9 @@ use Rattle.decimal.proofs.Decide.{Order, below, above, order}
 use Rattle.decimal.proofs.Numerals.{digits-split}
 use Rattle.format.specs.Bytes.{byte, bytes}
 use Rattle.format.specs.Syntax.{Sign, unsigned, plus, minus, Literal, Spelling}
-use Rattle.format.specs.Keys.{integer, signed}
+use Rattle.format.specs.Keys.{integer}
 use Rattle.format.specs.Limits.{numberLimit, integerLimit, signOf}
-use Rattle.format.specs.Answer.{Answer, ok, refused, _>>=_, require}
+use Rattle.format.specs.Answer.{Answer, ok, refused, _>>=_}
 use Rattle.format.specs.Read.{expect, digits, number, intText}
 use Rattle.format.specs.Table.{word}
 use Rattle.scanner.specs.declared.Text.{Text}
@@ -54,6 +54,13 @@ module _ {A : Type 0} {read : Reader A} {told : Told A} {s : List ℕ} {at : ℕ
 pub unfit-part : {A B : Type 0} {read : Reader A} {told : Told A} {whole : Reader B} {tells : Told B} {s : List ℕ} {at from c : ℕ} {r : Scan}
     → Scans read told s from r → r ≡ Scan.Not c → ((l : ℕ) → read l (drop from s) ≡ refused c l → whole l (drop at s) ≡ refused c l) → Scans whole tells s at r
 unfit-part {whole = whole} {tells} {s} {at} {c = c} h e f = subst (Scans whole tells s at) (sym e) (unfit c (λ l. f l (unfit-of h e l)))
+
+-- a text that is made of another answers as that does
+pub scans-map : {A B : Type 0} {read : Reader A} {told : Told A} {whole : Reader B} {tells : Told B} {s : List ℕ} {at : ℕ} {r : Scan} (f : A → B)
+    → ((l : ℕ) (s : List ℕ) → whole l s ≡ (read l s >>= λ q. ok (f (q .0), q .1))) → ((x : A) (next : ℕ) → told x next ≡ tells (f x) next) → Scans read told s at r → Scans whole tells s at r
+scans-map {s = s} {at} f e g (found t h) =
+    found t record { what = f (h .what); is = λ l. e l (drop at s) ∙ rw (h .is l); tells = h .tells ∙ g (h .what) (t .next); on = h .on; inside = h .inside }
+scans-map {s = s} {at} f e g (unfit c h) = unfit c (λ l. e l (drop at s) ∙ rw (h l))
 
 -- what was read, and what is left
 abbrev pub kept : {A : Type 0} → A → List ℕ → Answer (A × List ℕ)

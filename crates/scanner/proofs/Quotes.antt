@@ -1,26 +1,25 @@
 -- Laws of texts between quotes. Assumes nothing.
-use Prim.Native.Nat.{ℕ, suc, zero, _+_, _-_, _*_, _≤_, _<_}
+use Prim.Native.Nat.{ℕ, _+_, _-_, _≤_, _<_}
 use native.Mathlib.Omega.{arith}
-use mathlib.Core.Path.{_≡_, refl, sym, ap, _∙_, subst}
-use mathlib.Core.Bool.{Bool, true, false, _&&_}
+use mathlib.Core.Path.{_≡_, sym, ap, _∙_}
+use mathlib.Core.Bool.{true, false, _&&_}
 use mathlib.Core.List.{List, [], _∷_, _++_}
 use lib.Dec.{eqb, leb, lit<}
 use lib.ListN.{length, take, drop, length-drop, length-append}
-use lib.Seq.{drop-drop, length-take-le, take-append-seam, drop-append-seam}
+use lib.Seq.{drop-drop, length-take-le}
 use borrow.Author.Tests.{le-leb, lt-leb}
 use Rattle.decimal.specs.Digits.{spelled}
-use Rattle.decimal.proofs.Numerals.{spelled-length}
 use Rattle.format.specs.Bytes.{byte, bytes}
-use Rattle.format.specs.Syntax.{Spelling, Quoted, writeNumber}
+use Rattle.format.specs.Syntax.{Quoted, writeNumber}
 use Rattle.format.specs.Limits.{numberLimit}
-use Rattle.format.specs.Answer.{Answer, ok, refused, _>>=_, require}
+use Rattle.format.specs.Answer.{Answer, ok, require, _>>=_}
 use Rattle.format.specs.Read.{expect, quotedText}
-use Rattle.format.proofs.Texts.{quoted-ok, digits-ok}
+use Rattle.format.proofs.Texts.{digits-ok}
 use Rattle.scanner.specs.declared.Text.{Text}
 use Rattle.scanner.specs.declared.Scan.{Scan}
 use Rattle.scanner.specs.Scans.{byteAt, Found, Scans, found, unfit, digitsText, tell, valueTold, quotedTold}
 use Rattle.scanner.proofs.BytesAt.{expect-yes, expect-no, pair-there, pair-yes, pair-no}
-use Rattle.scanner.proofs.Numbers.{unfit-part, spelledSo, number-is, number-not}
+use Rattle.scanner.proofs.Numbers.{unfit-part, number-is, number-not}
 
 module _ (s : List ℕ) (at close : ℕ) (small : close < 256) where
   abbrev Answers : Scan → Type 0

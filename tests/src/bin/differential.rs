@@ -1,15 +1,19 @@
-//! Compares the library with the model on enumerated and generated plans, and tells what was reached.
+//! Compares the library with the model on enumerated and generated plans, tells what it reached.
 //!
 //! `--plans N` sets how many different plans are generated, `--seed N` from which seed. With
-//! `--seconds N` plans are only generated, from seed after seed, until the time is over.
+//! `--seconds N` plans are only generated, from seed after seed, until the time is over; they are
+//! different within each seed.
+//! `--last-plan FILE` keeps each plan in a file while it is read, for a library that crashes.
 
+use std::path::PathBuf;
 use std::process::ExitCode;
 use std::time::{Duration, Instant};
-use tonschnecke_tests::campaign::{self, Failure};
+use tonschnecke_tests::campaign::{self, Campaign, Failure};
 use tonschnecke_tests::random::Random;
 use tonschnecke_tests::shrink::shrink;
 use tonschnecke_tests::statistics::{Report, Statistics};
 
+const USAGE: &str = "usage: differential [--seed N] [--plans N] [--seconds N] [--last-plan FILE]";
 /// Seed of the gate's run.
 const DEFAULT_SEED: u64 = 20_240_229;
 /// Generated plans of the gate's run, and of each seed of a timed run.
@@ -19,25 +23,26 @@ struct Settings {
     seed: u64,
     plans: u64,
     seconds: Option<u64>,
+    last_plan: Option<PathBuf>,
 }
 
 fn main() -> ExitCode {
     let Some(settings) = settings(std::env::args().skip(1)) else {
-        eprintln!("usage: differential [--seed N] [--plans N] [--seconds N]");
+        eprintln!("{USAGE}");
         return ExitCode::from(2);
     };
     let start = Instant::now();
-    let mut generated = Statistics::default();
-    let mut enumerated = Statistics::default();
+    let mut generated = Campaign::new(settings.last_plan.clone());
+    let mut enumerated = Campaign::new(settings.last_plan.clone());
     let outcome = run(&settings, &mut generated, &mut enumerated);
     let report = Report {
-        generated: &generated,
-        enumerated: &enumerated,
+        generated: &generated.statistics,
+        enumerated: &enumerated.statistics,
     };
     print!("seed {}\n{report}", settings.seed);
     println!("{:.1} seconds", start.elapsed().as_secs_f64());
     match outcome {
-        Ok(()) => judge(&generated),
+        Ok(()) => judge(&generated.statistics),
         Err(failure) => {
             explain(&failure);
             ExitCode::FAILURE
@@ -51,13 +56,15 @@ fn settings(mut arguments: impl Iterator<Item = String>) -> Option<Settings> {
         seed: DEFAULT_SEED,
         plans: DEFAULT_PLANS,
         seconds: None,
+        last_plan: None,
     };
     while let Some(name) = arguments.next() {
-        let value = arguments.next()?.parse().ok()?;
+        let value = arguments.next()?;
         match name.as_str() {
-            "--seed" => settings.seed = value,
-            "--plans" => settings.plans = value,
-            "--seconds" => settings.seconds = Some(value),
+            "--seed" => settings.seed = value.parse().ok()?,
+            "--plans" => settings.plans = value.parse().ok()?,
+            "--seconds" => settings.seconds = Some(value.parse().ok()?),
+            "--last-plan" => settings.last_plan = Some(value.into()),
             _ => return None,
         }
     }
@@ -66,17 +73,18 @@ fn settings(mut arguments: impl Iterator<Item = String>) -> Option<Settings> {
 
 fn run(
     settings: &Settings,
-    generated: &mut Statistics,
-    enumerated: &mut Statistics,
+    generated: &mut Campaign,
+    enumerated: &mut Campaign,
 ) -> Result<(), Failure> {
     let Some(seconds) = settings.seconds else {
-        campaign::enumerated(enumerated)?;
-        return campaign::generated(settings.seed, settings.plans, None, generated);
+        enumerated.enumerate()?;
+        return generated.generate(settings.seed, settings.plans, None);
     };
     let deadline = Instant::now() + Duration::from_secs(seconds);
     let mut seeds = Random::new(settings.seed);
     while Instant::now() < deadline {
-        campaign::generated(seeds.word(), settings.plans, Some(deadline), generated)?;
+        generated.generate(seeds.word(), settings.plans, Some(deadline))?;
+        generated.forget();
     }
     Ok(())
 }

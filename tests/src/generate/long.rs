@@ -27,9 +27,9 @@ pub fn padded(random: &mut Random) -> Vec<u8> {
     let length = random.pick(&[
         65_536, 65_536, 65_536, 65_535, 65_537, 65_537, 66_000, 131_072, any, any,
     ]);
-    match random.below(3) {
-        0 => stretched(random, length),
-        1 => one_text(random, length),
+    match random.below(6) {
+        0..=2 => stretched(random, length),
+        3 => one_text(random, length),
         _ => many_pairs(random, length),
     }
 }
@@ -54,14 +54,23 @@ fn one_text(random: &mut Random, length: usize) -> Vec<u8> {
     [head.as_bytes(), &text, b"\"", after.as_bytes()].concat()
 }
 
-/// As many pairs with rising keys as fit; the count's leading zeros fill the rest.
+/// As many pairs with rising keys as fit; the count's leading zeros fill the rest. Here references
+/// name ordinals in the thousands.
 fn many_pairs(random: &mut Random, length: usize) -> Vec<u8> {
-    let value = random.pick(&["N;", "b:1;", "R:1;", "r:2;", "a:0:{}", "s:0:\"\";"]);
+    let tags = random.pick(&["N", "NNRr", "RR", "rr", "Nrra"]).as_bytes();
     let mut pairs = String::from("i:-1;N;");
     let mut count = 1;
+    let mut ordinals = 2;
     while pairs.len() + 40 < length {
-        pairs += &format!("i:{};{value}", count - 1);
+        let named = random.between(1, ordinals);
+        let tag = random.pick(tags);
+        pairs += &match tag {
+            b'r' | b'R' => format!("i:{};{}:{named};", count - 1, tag as char),
+            b'a' => format!("i:{};a:0:{{}}", count - 1),
+            _ => format!("i:{};N;", count - 1),
+        };
         count += 1;
+        ordinals += usize::from(tag != b'R');
     }
     let tail = format!("{count}:{{{pairs}}}");
     let zeros = "0".repeat(length - 2 - tail.len());

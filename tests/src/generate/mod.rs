@@ -8,10 +8,11 @@ mod noise;
 mod plan;
 mod spelling;
 
-pub use long::{crowded, padded};
-pub use plan::{write, Style};
+pub use long::padded;
 
 use crate::random::Random;
+use long::crowded;
+use plan::{write, Style};
 
 /// The bytes that the format itself uses.
 pub const ALPHABET: &[u8] = b"NbidsaOrR:;{}\"0123456789+-.eEIFACoSU";
@@ -21,10 +22,10 @@ pub const ALPHABET: &[u8] = b"NbidsaOrR:;{}\"0123456789+-.eEIFACoSU";
 pub fn plan(random: &mut Random) -> Vec<u8> {
     match random.below(10_000) {
         0..=1 => crowded(random),
-        2..=9 => padded(random),
-        10..=29 => write(random, wide(0)),
-        30..=49 => write(random, wide(500)),
-        50..=3_499 => valid(random),
+        2..=13 => padded(random),
+        14..=39 => wide(random, 0),
+        40..=69 => wide(random, 700),
+        70..=3_499 => valid(random),
         3_500..=6_499 => damaged(random),
         6_500..=7_999 => faulty(random),
         _ => noise::bytes(random),
@@ -59,9 +60,9 @@ fn faulty(random: &mut Random) -> Vec<u8> {
 
 fn style(random: &mut Random) -> Style {
     let (nodes, depth, spine) = match random.below(100) {
-        0..=29 => (random.between(1, 4), 2, false),
-        30..=69 => (random.between(3, 14), 4, false),
-        70..=94 => (random.between(10, 60), 8, false),
+        0..=19 => (random.between(1, 4), 2, false),
+        20..=64 => (random.between(3, 14), 4, false),
+        65..=94 => (random.between(10, 60), 8, false),
         95..=96 => (random.between(60, 200), 64, false),
         97 => (random.between(1, 200), random.between(30, 63), true),
         _ => (random.between(1, 200), 64, true),
@@ -77,13 +78,14 @@ fn style(random: &mut Random) -> Style {
 }
 
 /// Hundreds of nodes and long texts; one value and one key in `faults` is wrong.
-fn wide(faults: usize) -> Style {
-    Style {
-        nodes: 700,
+fn wide(random: &mut Random, faults: usize) -> Vec<u8> {
+    let style = Style {
+        nodes: random.between(200, 2_000),
         depth: 20,
         spine: false,
         longest_text: 60,
         wrong_values: faults,
         wrong_keys: faults,
-    }
+    };
+    write(random, style)
 }

@@ -8,7 +8,7 @@ use crate::random::Random;
 /// What a plan should look like.
 #[derive(Clone, Copy)]
 pub struct Style {
-    /// About how many nodes.
+    /// How many nodes at most, those of the spine not counted.
     pub nodes: usize,
     /// Depth of the deepest containers.
     pub depth: usize,
@@ -28,7 +28,7 @@ pub fn write(random: &mut Random, style: Style) -> Vec<u8> {
         style,
         out: Vec::new(),
         ordinals: 0,
-        left: style.nodes,
+        left: style.nodes.saturating_sub(1),
     };
     writer.value(1, style.spine);
     writer.out
@@ -39,24 +39,21 @@ struct Writer<'r> {
     style: Style,
     out: Vec<u8>,
     ordinals: usize,
-    /// Nodes that may still be spent on containers' contents.
+    /// Nodes not yet promised to any container.
     left: usize,
 }
 
 impl Writer<'_> {
     fn value(&mut self, depth: usize, spine: bool) {
-        self.left = self.left.saturating_sub(1);
         if self.falls_on(self.style.wrong_values) {
             faults::value(self.random, &mut self.out, self.ordinals);
             return;
         }
-        let chances = if depth == 1 { 10 } else { 3 };
         let inner = depth < self.style.depth;
-        if inner && spine {
-            self.container(depth, true);
-        } else if inner && self.left >= 2 && (self.random.one_in(3) || !self.random.one_in(chances))
-        {
-            self.container(depth, false);
+        let chances = if depth == 1 { 10 } else { 4 };
+        let wanted = self.left >= 2 && !self.random.one_in(chances);
+        if inner && (spine || wanted) {
+            self.container(depth, spine);
         } else {
             self.leaf();
         }
@@ -71,6 +68,7 @@ impl Writer<'_> {
         let most = (self.left / 2).max(1);
         let few = most.min(self.random.pick(&[2, 5, 12, most]));
         let count = self.random.between(usize::from(spine), few);
+        self.left = self.left.saturating_sub(2 * count);
         let object = self.random.one_in(3) && count <= 400;
         let keys = if object {
             Keys::of_object(self.random, count)
@@ -99,7 +97,6 @@ impl Writer<'_> {
     /// Writes `count` pairs; the one at place `spine` leads further down.
     fn pairs(&mut self, depth: usize, count: usize, mut keys: Keys, spine: Option<usize>) {
         for place in 0..count {
-            self.left = self.left.saturating_sub(1);
             let repeated = keys.repeated(self.random);
             match repeated {
                 _ if !self.falls_on(self.style.wrong_keys) => {

@@ -1,6 +1,6 @@
 //! The form of float texts.
 
-/// Whether `text` as a whole is a float text. "`5.` and `.5` are float texts; `.` and `+INF` are not."
+/// Whether the whole is a float text. "`5.` and `.5` are float texts; `.` and `+INF` are not."
 pub fn is_float_text(text: &[u8]) -> bool {
     if matches!(text, b"INF" | b"-INF" | b"NAN") {
         return true;

@@ -9,7 +9,8 @@ mod value;
 
 pub use refusal::{Code, Refusal};
 pub use table::{Row, Table, WORDS};
-pub use value::{Key, Pair, Span, Value};
+
+use value::Value;
 
 /// What reading gives: the table's nodes, or a refusal.
 pub type Answer = Result<Table, Refusal>;

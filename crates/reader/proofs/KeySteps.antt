@@ -1,0 +1,168 @@
+-- The steps of reading a key, by the definitions of reading. Assumes nothing.
+use Prim.Native.Nat.{ℕ, suc, _+_, _-_, _*_, _≤_, _<_}
+use native.Mathlib.Nat.{add-zero}
+use native.Mathlib.Numerals.{add-one}
+use native.Mathlib.Omega.{arith}
+use mathlib.Core.Path.{_≡_, refl, sym, ap, _∙_, subst}
+use mathlib.Core.Bool.{true, false, not}
+use mathlib.Core.Logic.{⊎-elim}
+use mathlib.Core.List.{List, [], _∷_}
+use lib.Dec.{lit<}
+use lib.ListN.{length, getD, take, drop, length-drop}
+use lib.Seq.{sets, drop-cons}
+use borrow.Author.Tests.{lt-ltb, le-ltb}
+use Rattle.format.specs.Bytes.{byte}
+use Rattle.format.specs.Kind.{Kind, tag, isTagOf, keyKinds, mayBeKey}
+use Rattle.format.specs.Syntax.{intKey, stringKey, Key, writeNumber, writeKey}
+use Rattle.format.specs.Keys.{hasKey}
+use Rattle.format.specs.Answer.{Answer, ok, refused, _>>=_, require}
+use Rattle.format.specs.Read.{keyText, readKey}
+use Rattle.format.specs.Table.{Node, words, width, keyNode, textOffset}
+use Rattle.format.proofs.Texts.{KeyKind, is-int, is-string, keyText-ok}
+use Rattle.format.proofs.Fronts.{number-length, quoted-length}
+use Rattle.format.proofs.Places.{quoted-text}
+use Rattle.scanner.specs.declared.Text.{Text}
+use Rattle.scanner.specs.declared.Scan.{Scan}
+use Rattle.scanner.specs.Scans.{Found, Scans}
+use Rattle.scanner.proofs.Numbers.{unfit-of}
+use Rattle.reader.specs.declared.cursor.Cursor.{Cursor}
+use Rattle.reader.specs.declared.cursor.Step.{Step}
+use Rattle.reader.specs.declared.seen.KeyWords.{KeyWords}
+use Rattle.reader.specs.Texts.{kindFor, isArrayTag, keyTold}
+use Rattle.reader.specs.Nodes.{nodeOf, wordAt, Placed}
+use Rattle.reader.specs.KeysSeen.{keyTag, Says, Held, keyWords}
+use Rattle.reader.specs.Steps.{Fit, GoodKey, MeetsKey, keyAt, refusalOf}
+use Rattle.reader.proofs.Tagged.{position-is, tag-end, tag-other, tag-is, key-kind-is, key-any, one-of}
+use Rattle.reader.proofs.Bodies.{keyKind, key-told, key-of-int, key-of-string}
+use Rattle.reader.proofs.Stored.{run-word}
+use Rattle.reader.proofs.Leaves.{refused-is}
+
+-- what the scan of a key says of its words
+module _ (s : List ℕ) (at b : ℕ) (may : mayBeKey b ≡ true) (here : at < length s) (tagged : getD s at 0 ≡ b) (x : Text) (f : Found (keyText (kindFor b)) (keyTold (at + 1)) s (at + 1) x) where
+  which : KeyKind (kindFor b)
+  unfolding kindFor
+  which = ⊎-elim (λ e. is-int (rw e)) (λ o. ⊎-elim (λ e. is-string (rw e)) (λ z. absurd z) o) (one-of (keyKinds true) b may)
+
+  kind-is : keyKind (f .what) ≡ kindFor b
+  kind-is = go which
+    where
+      go : KeyKind (kindFor b) → keyKind (f .what) ≡ kindFor b
+      go (is-int e) = key-of-int 0 (drop (at + 1) s) (f .what, drop (x .next) s) (subst (λ (k : Kind). keyText k 0 (drop (at + 1) s) ≡ ok (f .what, drop (x .next) s)) e (f .is 0)) ∙ sym e
+      go (is-string e) = key-of-string 0 (drop (at + 1) s) (f .what, drop (x .next) s) (subst (λ (k : Kind). keyText k 0 (drop (at + 1) s) ≡ ok (f .what, drop (x .next) s)) e (f .is 0)) ∙ sym e
+
+  tag-back : tag (kindFor b) ≡ b
+  unfolding kindFor
+  tag-back = ⊎-elim (λ e. rw e) (λ o. ⊎-elim (λ e. rw e) (λ z. absurd z) o) (one-of (keyKinds true) b may)
+
+  key-node : (i : ℕ) → keyNode at i (f .what) ≡ nodeOf b 0 (suc i) x
+  key-node i =
+      key-told at i (x .next) (f .what)
+      ∙ ap (λ (k : ℕ). nodeOf k 0 (suc i) (keyTold (at + 1) (f .what) (x .next))) (ap tag kind-is ∙ tag-back)
+      ∙ ap (nodeOf b 0 (suc i)) (sym (f .tells))
+
+  written : tag (kindFor b) ∷ drop (at + 1) s ≡ writeKey (f .what) (drop (x .next) s)
+  written = keyText-ok (kindFor b) 0 (drop (at + 1) s) (f .what, drop (x .next) s) which (f .is 0) .text
+
+  at-key : drop at s ≡ writeKey (f .what) (drop (x .next) s)
+  at-key = drop-cons s at 0 here ∙ ap (λ (k : ℕ). k ∷ drop (suc at) s) (tagged ∙ sym tag-back) ∙ ap (λ (k : ℕ). tag (kindFor b) ∷ drop k s) (sym (add-one at)) ∙ written
+
+  says : (k : Key) → drop at s ≡ writeKey k (drop (x .next) s) → x ≡ keyTold (at + 1) k (x .next) → Says s k (x .content) (x .size)
+  says (intKey y) w e = sym (ap (λ (u : Text). u .content) e)
+  says (stringKey q) w e =
+      let o : x .content ≡ at + 1 + 3 + length (writeNumber (q .spelling) (length (q .text)) []) = ap (λ (u : Text). u .content) e in
+      let n : x .size ≡ length (q .text) = ap (λ (u : Text). u .size) e in
+      let z : textOffset at q ≡ x .content = omega (arith, o) in (
+        sym (ap (λ (k : ℕ). take k (drop (x .content) s)) n ∙ ap (λ (k : ℕ). take (length (q .text)) (drop k s)) (sym z) ∙ quoted-text s at (byte "s") q (byte ";" ∷ drop (x .next) s) w),
+        omega (arith, o, n, ap length w, length-drop at s, quoted-length q (byte ";" ∷ drop (x .next) s), number-length (q .spelling) (length (q .text)) []),
+      )
+
+  pub held-of : Held s (f .what) (record { tag = b; content = x .content; size = x .size })
+  held-of =
+      record {
+        is = sym (ap tag kind-is ∙ tag-back) ∙ same-tag (f .what);
+        says = says (f .what) at-key (f .tells);
+        fits = keyText-ok (kindFor b) 0 (drop (at + 1) s) (f .what, drop (x .next) s) which (f .is 0) .fits;
+      }
+    where
+      same-tag : (k : Key) → tag (keyKind k) ≡ keyTag k
+      same-tag (intKey y) = refl
+      same-tag (stringKey q) = refl
+
+-- ---- the steps
+
+module _ (s : List ℕ) (capacity container : ℕ) (c : Cursor) (earlier : List Key) where
+  abbrev given : Answer (Key × List ℕ)
+  given = keyAt s capacity container earlier c
+
+  abbrev among : List Kind
+  among = keyKinds (isArrayTag container)
+
+  abbrev l : ℕ
+  l = length s - length (drop (c .at) s)
+
+  pub key-end : length s ≤ c .at → c .at ≤ length s → given ≡ refused 2 (c .at)
+  unfolding keyAt readKey
+  key-end h i = rw (readKey, tag-end among 4 l s (c .at) h, position-is s (c .at) i)
+
+  module _ (b : ℕ) (h : c .at < length s) (q : getD s (c .at) 0 ≡ b) where
+    inside : c .at ≤ length s
+    inside = omega arith
+
+    pub key-other : isTagOf among b ≡ false → given ≡ refused 4 (c .at)
+    unfolding keyAt readKey
+    key-other e = rw (readKey, tag-other among 4 l s (c .at) b h q e, position-is s (c .at) inside)
+
+    module _ (e : isTagOf among b ≡ true) where
+      pub key-full : capacity ≤ c .node → given ≡ refused 7 (c .at)
+      unfolding keyAt readKey
+      key-full f = rw (readKey, tag-is among 4 l s (c .at) b h q e, le-ltb (c .node) capacity f, position-is s (c .at) inside)
+
+      module _ (room : c .node < capacity) where
+        -- what follows the tag
+        abbrev rest : Key × List ℕ → Answer (Key × List ℕ)
+        rest (k, s₂) = require (not (hasKey k earlier)) 9 (c .at) >>= λ u. ok (k, s₂)
+
+        opened : given ≡ (keyText (kindFor b) (c .at) (drop (c .at + 1) s) >>= rest)
+        unfolding keyAt readKey
+        opened = rw (readKey, tag-is among 4 l s (c .at) b h q e, key-kind-is (isArrayTag container) b e, lt-ltb (c .node) capacity room, position-is s (c .at) inside)
+
+        pub key-not : (t t′ : List ℕ) (scan : Scan) (code : ℕ) (r : Step) → Scans (keyText (kindFor b)) (keyTold (c .at + 1)) s (c .at + 1) scan → scan ≡ Scan.Not code → r ≡ refusalOf scan (c .at)
+            → MeetsKey s t t′ capacity c given r
+        key-not t t′ scan code r k g z = subst (MeetsKey s t t′ capacity c given) (sym (refused-is scan code (c .at) r z g)) (opened ∙ rw (unfit-of k g (c .at)))
+
+        module _ (x : Text) (f : Found (keyText (kindFor b)) (keyTold (c .at + 1)) s (c .at + 1) x) where
+          pub key-twice : hasKey (f .what) earlier ≡ true → given ≡ refused 9 (c .at)
+          key-twice g = opened ∙ rw (f .is (c .at), g)
+
+          may : mayBeKey b ≡ true
+          may = key-any (isArrayTag container) b e
+
+          pub key-held : Held s (f .what) (record { tag = b; content = x .content; size = x .size })
+          key-held = held-of s (c .at) b may h q x f
+
+          pub key-good : (t t′ : List ℕ) (c′ : Cursor) → Fit s t capacity c → hasKey (f .what) earlier ≡ false → Placed t t′ c b x false c′ → GoodKey s t t′ capacity c given c′
+          key-good t t′ c′ fit g p =
+              subst (GoodKey s t t′ capacity c given) (sym (p .cursor)) (record {
+                key = f .what;
+                is = opened ∙ rw (f .is (c .at), g);
+                on = omega (arith, f .on);
+                inside = f .inside;
+                node = refl;
+                fits = omega arith;
+                ordinal = add-zero (c .ordinal);
+                levels = refl;
+                table = p .table ∙ ap (λ (n : ℕ). sets t (c .node * width) (words (nodeOf b 0 n x))) (add-one (c .node)) ∙ ap (λ (n : Node). sets t (c .node * width) (words n)) (sym (key-node s (c .at) b may h q x f (c .node)));
+                held = subst (Held s (f .what)) (sym same) key-held;
+              })
+            where
+              ws : List ℕ
+              ws = words (nodeOf b 0 (c .node + 1) x)
+
+              word-is : (j : ℕ) → j < length ws → wordAt t′ (c .node) j ≡ getD ws j 0
+              word-is j u = run-word t t′ ws (c .node) j (p .table) u (omega arith)
+
+              of-words : (a₁ a₂ b₁ b₂ d₁ d₂ : ℕ) → a₁ ≡ a₂ → b₁ ≡ b₂ → d₁ ≡ d₂ → _≡_ {A = KeyWords} (record { tag = a₁; content = b₁; size = d₁ }) (record { tag = a₂; content = b₂; size = d₂ })
+              of-words a₁ a₂ b₁ b₂ d₁ d₂ u v w = rw (u, v, w)
+
+              same : keyWords t′ (c .node) ≡ record { tag = b; content = x .content; size = x .size }
+              same = of-words (wordAt t′ (c .node) 0) b (wordAt t′ (c .node) 2) (x .content) (wordAt t′ (c .node) 3) (x .size) (word-is 0 (lit< tt)) (word-is 2 (lit< tt)) (word-is 3 (lit< tt))

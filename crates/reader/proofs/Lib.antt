@@ -1,0 +1,13 @@
+pub mod Tagged
+pub mod Bodies
+pub mod Stored
+pub mod Leaves
+pub mod KeyLaws
+pub mod KeySteps
+pub mod Snoc
+pub mod PairSteps
+pub mod HeadTexts
+pub mod ContainerSteps
+pub mod WholeSteps
+pub mod ScalarTexts
+pub mod Placing

@@ -1,0 +1,278 @@
+-- The loop over a container's pairs, by the definitions of reading. Assumes nothing.
+use Prim.Native.Nat.{ℕ, suc, zero, _+_, _-_, _*_, _≤_, _<_}
+use native.Mathlib.Numerals.{sub-one}
+use native.Mathlib.Omega.{arith}
+use mathlib.Core.Path.{_≡_, refl, sym, ap, _∙_, subst, subst₂}
+use mathlib.Core.Bool.{Bool, true, false, _||_}
+use mathlib.Core.List.{List, [], _∷_, _++_}
+use lib.Dec.{lit<}
+use lib.ListN.{length, getD, drop, length-drop}
+use lib.Seq.{sets}
+use Rattle.decimal.proofs.Stores.{sets-append}
+use Rattle.format.specs.Tree as tree
+use Rattle.format.specs.Tree.{leaf, ref, branch, nodes, nodesIn, ordinals, ordinalsIn}
+use Rattle.format.specs.Syntax.{intKey, stringKey, Key, Value, Values, own, write, writePairs}
+use Rattle.format.specs.Keys.{sameKey, hasKey}
+use Rattle.format.specs.Answer.{Answer, ok, refused, _>>=_}
+use Rattle.format.specs.Read.{readPairs, setting}
+use Rattle.format.specs.Table.{words, width, flat, keyNode, valueOffset, table, tableIn}
+use Rattle.format.proofs.Inversion.{key-written, value-written}
+use Rattle.format.proofs.Results.{flat-length}
+use Rattle.format.proofs.Rows.{tableIn-length}
+use Rattle.reader.specs.declared.cursor.Cursor.{Cursor}
+use Rattle.reader.specs.declared.cursor.Step.{Step}
+use Rattle.reader.specs.declared.seen.Highest.{Highest}
+use Rattle.reader.specs.declared.seen.KeyWords.{KeyWords}
+use Rattle.reader.specs.Texts.{isArrayTag}
+use Rattle.reader.specs.Nodes.{wordAt}
+use Rattle.reader.specs.KeysSeen.{Held, keyWords, Chain, none, pair, Walk, Raised}
+use Rattle.reader.specs.Steps.{Points, Takes, TakesIn, Fit, Kept, WroteIn, GoodValue, GoodPairs, GoodKey, MeetsPairs, Earlier, innerAt, valueAt, pairsAt, keyAt}
+use Rattle.reader.proofs.KeyLaws.{chain-le, under-raised}
+use Rattle.reader.proofs.Snoc.{snoc, onto, onto-none, onto-done, onto-refused, onto-snoc, nodes-snoc, ordinals-snoc, key-adds, write-adds, length-snoc, ordinals-le, flat-append, table-snoc, takes-snoc}
+use Rattle.reader.proofs.Stored.{run-kept, run-word, points-kept, points-skip}
+
+-- ---- the pairs in the table grow at their end
+
+or-swap : (a b c : Bool) → (a || (b || c)) ≡ (b || (a || c))
+or-swap true true c = refl
+or-swap true false c = refl
+or-swap false true c = refl
+or-swap false false c = refl
+
+has-snoc : (x k : Key) (ks : List Key) → hasKey x (ks ++ (k ∷ [])) ≡ (sameKey x k || hasKey x ks)
+has-snoc x k [] = refl
+has-snoc x k (j ∷ ks) = ap (λ (b : Bool). sameKey x j || b) (has-snoc x k ks) ∙ or-swap (sameKey x j) (sameKey x k) (hasKey x ks)
+
+-- the key at a node, where the words are as they were
+held-kept : {s : List ℕ} (t t′ : List ℕ) (k : Key) (i : ℕ) → ((j : ℕ) → j < width → wordAt t′ i j ≡ wordAt t i j) → Held s k (keyWords t i) → Held s k (keyWords t′ i)
+held-kept t t′ k i same h = rw (same 0 (lit< tt), same 2 (lit< tt), same 3 (lit< tt)) h
+
+chain-more : {s t : List ℕ} (t′ : List ℕ) {i n : ℕ} {ks : List Key} (k : Key) (m : ℕ) → Kept t t′ n → Held s k (keyWords t′ n) → wordAt t′ n 11 ≡ m → n + 1 < m
+    → Chain s t i n ks → Chain s t′ i m (ks ++ (k ∷ []))
+chain-more t′ k m same h e l none = pair h e l none
+chain-more {t = t} t′ k m same h e l (pair {i = i} {k = j} a b o c) =
+    let q = chain-le c in
+    pair (held-kept t t′ j i (λ x u. same (i * width + x) (omega arith)) a) (same (i * width + 11) (omega arith) ∙ b) o (chain-more t′ k m same h e l c)
+
+-- ---- what the loop keeps
+
+unfoldable restAt : (s : List ℕ) (capacity container levels more : ℕ) → List Key → Cursor → Answer (Values × List ℕ)
+restAt s capacity container levels more earlier c = readPairs (setting capacity s) (innerAt s capacity levels) (isArrayTag container) more earlier (c .ordinal) (c .node) (drop (c .at) s)
+
+pub record Run (s t₀ t : List ℕ) (capacity container count : ℕ) (c₀ c : Cursor) (more : ℕ) (highest : Highest) : Type 0 where
+  pub pairs : Values
+  pub earlier : List Key
+  all : pairsAt s capacity container count c₀ ≡ onto pairs (restAt s capacity container (c₀ .levels) more earlier c)
+  pub keys : Earlier s t (c₀ .node) (c .node) highest earlier
+  node : c .node ≡ c₀ .node + nodesIn pairs
+  ordinal : c .ordinal ≡ c₀ .ordinal + ordinalsIn own pairs
+  behind : c .at ≡ c₀ .at + length (writePairs pairs [])
+  levels : c .levels ≡ c₀ .levels
+  pub fit : Fit s t capacity c
+  kept : Kept t₀ t (c₀ .node)
+  wrote : WroteIn t₀ t c₀ c pairs
+  pub long : length t ≡ length t₀
+
+pub run-start : (s t : List ℕ) (capacity container count : ℕ) (c : Cursor) → Fit s t capacity c → Run s t t capacity container count c c count Highest.Nothing
+unfolding write pairsAt restAt
+run-start s t capacity container count c f =
+    record {
+      pairs = tree.none;
+      earlier = [];
+      all = sym (onto-none (restAt s capacity container (c .levels) count [] c));
+      keys = record { keys = []; chain = none; same = λ k. refl; under = tt };
+      node = omega arith;
+      ordinal = omega arith;
+      behind = omega arith;
+      levels = refl;
+      fit = f;
+      kept = λ i h. refl;
+      wrote = record { of = λ to p q. (refl, p) };
+      long = refl;
+    }
+
+module _ {s t₀ t : List ℕ} {capacity container count : ℕ} {c₀ c : Cursor} {more : ℕ} {highest : Highest} (r : Run s t₀ t capacity container count c₀ c more highest) where
+  pub run-walk : Walk s t (c₀ .node) (c .node)
+  run-walk = record { keys = r .keys .keys; chain = r .keys .chain }
+
+  pub run-on : c₀ .at ≤ c .at
+  run-on = omega (arith, r .behind)
+
+  abbrev given : Answer (Values × List ℕ)
+  given = pairsAt s capacity container count c₀
+
+  pub run-done : more ≡ 0 → GoodPairs s t₀ t capacity c₀ given c
+  unfolding restAt
+  run-done e =
+      record {
+        pairs = r .pairs;
+        is = r .all ∙ rw (restAt, e) (onto-done (r .pairs) (drop (c .at) s));
+        on = run-on;
+        inside = r .fit .inside;
+        node = r .node;
+        fits = r .fit .node;
+        ordinal = r .ordinal;
+        levels = r .levels;
+        kept = r .kept;
+        wrote = r .wrote;
+      }
+
+  module _ (some : 0 < more) where
+    -- the pairs that are left are a key, a value and the pairs behind them
+    rest-bad : (code at : ℕ) → restAt s capacity container (c₀ .levels) more (r .earlier) c ≡ refused code at → given ≡ refused code at
+    rest-bad code at e = r .all ∙ ap (onto (r .pairs)) e ∙ onto-refused (r .pairs) code at
+
+    pub run-key-bad : (code at : ℕ) → keyAt s capacity container (r .earlier) c ≡ refused code at → given ≡ refused code at
+    unfolding restAt keyAt
+    run-key-bad code at e = rest-bad code at (go more some)
+      where
+        go : (m : ℕ) → 0 < m → readPairs (setting capacity s) (innerAt s capacity (c₀ .levels)) (isArrayTag container) m (r .earlier) (c .ordinal) (c .node) (drop (c .at) s) ≡ refused code at
+        go zero h = absurd (omega arith)
+        go (suc m) h = rw e
+
+    module _ (t₁ : List ℕ) (mid : Cursor) (k : GoodKey s t t₁ capacity c (keyAt s capacity container (r .earlier) c) mid) where
+      value-is : innerAt s capacity (c₀ .levels) (c .ordinal) (suc (c .node)) (drop (mid .at) s) ≡ valueAt s capacity mid
+      unfolding innerAt valueAt
+      value-is =
+          let a : c₀ .levels ≡ mid .levels = sym (k .levels ∙ r .levels) in
+          let b : c .ordinal ≡ mid .ordinal = sym (k .ordinal) in
+          let d : suc (c .node) ≡ mid .node = omega (arith, k .node) in
+          rw (a, b, d)
+
+      pub run-value-bad : (code at : ℕ) → valueAt s capacity mid ≡ refused code at → given ≡ refused code at
+      unfolding restAt keyAt
+      run-value-bad code at e = rest-bad code at (go more some)
+        where
+          go : (m : ℕ) → 0 < m → readPairs (setting capacity s) (innerAt s capacity (c₀ .levels)) (isArrayTag container) m (r .earlier) (c .ordinal) (c .node) (drop (c .at) s) ≡ refused code at
+          go zero h = absurd (omega arith)
+          go (suc m) h = rw (k .is, value-is, e)
+
+      pub mid-fit : length t₁ ≡ length t → Fit s t₁ capacity mid
+      mid-fit l = let f = r .fit in record { inside = k .inside; table = omega arith; node = k .fits; ordinal = omega (arith, k .node, k .ordinal) }
+
+      key-long : mid .at ≡ valueOffset (c .at) (k .key)
+      unfolding keyAt
+      key-long =
+          let w = key-written (setting capacity s) (isArrayTag container) (r .earlier) (c .node) (drop (c .at) s) (k .key, drop (mid .at) s) (k .is) in
+          let f = r .fit in
+          omega (arith, ap length w, key-adds (k .key) (drop (mid .at) s), length-drop (c .at) s, length-drop (mid .at) s, k .inside, k .on)
+
+      module _ (t₂ : List ℕ) (next : Cursor) (g : GoodValue s t₁ t₂ capacity mid (valueAt s capacity mid) next) (l₁ : length t₁ ≡ length t) (l₂ : length t₂ ≡ length t₁)
+          (higher : Highest) (w : KeyWords) (of-key : w ≡ keyWords t₁ (c .node)) (a : Raised highest w higher) where
+        value-long : next .at ≡ mid .at + length (write (g .value) [])
+        unfolding valueAt
+        value-long =
+            let w = value-written (setting capacity s) (mid .levels) (mid .ordinal) (mid .node) (drop (mid .at) s) (g .value, drop (next .at) s) (g .is) in
+            omega (arith, ap length w, write-adds (g .value) (drop (next .at) s), length-drop (next .at) s, length-drop (mid .at) s, k .inside, g .inside, g .on)
+
+        rest-good : restAt s capacity container (c₀ .levels) more (r .earlier) c
+            ≡ (restAt s capacity container (c₀ .levels) (more - 1) (k .key ∷ r .earlier) next >>= λ q. ok (tree.pair (k .key) (g .value) (q .0), q .1))
+        unfolding restAt keyAt
+        rest-good = go more some
+          where
+            go : (m : ℕ) → 0 < m
+                → readPairs (setting capacity s) (innerAt s capacity (c₀ .levels)) (isArrayTag container) m (r .earlier) (c .ordinal) (c .node) (drop (c .at) s)
+                ≡ (readPairs (setting capacity s) (innerAt s capacity (c₀ .levels)) (isArrayTag container) (m - 1) (k .key ∷ r .earlier) (next .ordinal) (next .node) (drop (next .at) s)
+                >>= λ q. ok (tree.pair (k .key) (g .value) (q .0), q .1))
+            go zero h = absurd (omega arith)
+            go (suc m) h =
+                let x : c .ordinal + ordinals own (g .value) ≡ next .ordinal = omega (arith, g .ordinal, k .ordinal) in
+                let y : suc (c .node + nodes (g .value)) ≡ next .node = omega (arith, g .node, k .node) in
+                rw (k .is, value-is, g .is, x, y, sub-one (suc m))
+
+        ordinal-none : (j : Key) (o i : ℕ) → getD (words (keyNode o i j)) 1 0 ≡ 0
+        ordinal-none (intKey x) o i = refl
+        ordinal-none (stringKey q) o i = refl
+
+        nodes-some : (v : Value) → 1 ≤ nodes v
+        nodes-some (leaf x) = omega arith
+        nodes-some (ref n) = omega arith
+        nodes-some (branch h ps) = omega arith
+
+        same-below : Kept t t₂ (c .node)
+        same-below i h = g .kept i (omega (arith, k .node)) ∙ run-kept t t₁ (words (keyNode (c .at) (c .node) (k .key))) (c .node) (k .table) i h
+
+        ends : wordAt t₂ (c .node) 11 ≡ next .node
+        ends = ap (λ (i : ℕ). getD t₂ i 0) (place (k .node)) ∙ g .end
+          where
+            place : mid .node ≡ c .node + 1 → c .node * width + 11 ≡ mid .node * width + 5
+            place e = omega arith
+
+        listed : Earlier s t₂ (c₀ .node) (next .node) higher (k .key ∷ r .earlier)
+        listed =
+            record {
+              keys = r .keys .keys ++ (k .key ∷ []);
+              chain = chain-more t₂ (k .key) (next .node) same-below (held-kept t₁ t₂ (k .key) (c .node) (λ j h. g .kept (c .node * width + j) (omega (arith, k .node))) (k .held)) ends (omega (arith, g .node, k .node, nodes-some (g .value))) (r .keys .chain);
+              same = λ x. ap (λ (b : Bool). sameKey x (k .key) || b) (r .keys .same x) ∙ sym (has-snoc x (k .key) (r .keys .keys));
+              under = under-raised s highest higher (r .keys .keys) (k .key) (keyWords t₁ (c .node)) (subst (λ (x : KeyWords). Raised highest x higher) of-key a) (k .held) (r .keys .under);
+            }
+
+        writes : (to : ℕ → ℕ) → Points to t₀ (c₀ .node) (c₀ .ordinal) → TakesIn to (c₀ .node) (suc (c₀ .ordinal)) (snoc (r .pairs) (k .key) (g .value))
+            → (t₂ ≡ sets t₀ (c₀ .node * width) (flat (tableIn to (c₀ .at) (c₀ .node) (suc (c₀ .ordinal)) (snoc (r .pairs) (k .key) (g .value))))) × Points to t₂ (next .node) (next .ordinal)
+        writes to p q =
+            let q′ = takes-snoc to (r .pairs) (k .key) (g .value) (c₀ .node) (suc (c₀ .ordinal)) q in
+            let w₀ = r .wrote .of to p (q′ .0) in
+            let ks : List ℕ = words (keyNode (c .at) (c .node) (k .key)) in
+            let p₁ : Points to t₁ (mid .node) (mid .ordinal) =
+            subst₂ (λ (x y : ℕ). Points to t₁ x y) (sym (k .node)) (sym (k .ordinal))
+            (points-skip to t₁ (c .node) (c .ordinal) (points-kept to t t₁ (c .node) (c .ordinal) (w₀ .1) (run-kept t t₁ ks (c .node) (k .table)))
+            (run-word t t₁ ks (c .node) 1 (k .table) (lit< tt) (room (r .fit)) ∙ ordinal-none (k .key) (c .at) (c .node))) in
+            let q₁ : Takes to (mid .node) (suc (mid .ordinal)) (g .value) = subst₂ (λ (x y : ℕ). Takes to x y (g .value)) nodes-are ordinals-are (q′ .1) in
+            let w₁ = g .wrote .of to p₁ q₁ in (
+              w₁ .0
+                  ∙ ap (λ (u : List ℕ). sets u (mid .node * width) (vs to)) (k .table)
+                  ∙ sets-append ks (vs to) t (c .node * width) (mid .node * width) (omega (arith, k .node))
+                  ∙ ap (λ (u : List ℕ). sets u (c .node * width) (ks ++ vs to)) (w₀ .0)
+                  ∙ sets-append (before to) (ks ++ vs to) t₀ (c₀ .node * width) (c .node * width)
+                  (omega (arith, flat-length (tableIn to (c₀ .at) (c₀ .node) (suc (c₀ .ordinal)) (r .pairs)), tableIn-length to (r .pairs) (c₀ .at) (c₀ .node) (suc (c₀ .ordinal)), r .node))
+                  ∙ ap (sets t₀ (c₀ .node * width)) (rows to),
+              w₁ .1,
+            )
+          where
+            before : (ℕ → ℕ) → List ℕ
+            before to = flat (tableIn to (c₀ .at) (c₀ .node) (suc (c₀ .ordinal)) (r .pairs))
+
+            vs : (ℕ → ℕ) → List ℕ
+            vs to = flat (table to (mid .at) (mid .node) (suc (mid .ordinal)) (g .value))
+
+            room : Fit s t capacity c → c .node * width + width ≤ length t
+            room f = omega (arith, k .fits, k .node)
+
+            nodes-are : suc (c₀ .node + nodesIn (r .pairs)) ≡ mid .node
+            nodes-are = omega (arith, r .node, k .node)
+
+            ordinals-are : suc (c₀ .ordinal) + ordinalsIn own (r .pairs) ≡ suc (mid .ordinal)
+            ordinals-are = omega (arith, r .ordinal, k .ordinal)
+
+            next-node : suc (c .node) ≡ mid .node
+            next-node = omega (arith, k .node)
+
+            rows : (to : ℕ → ℕ) → before to ++ (words (keyNode (c .at) (c .node) (k .key)) ++ vs to) ≡ flat (tableIn to (c₀ .at) (c₀ .node) (suc (c₀ .ordinal)) (snoc (r .pairs) (k .key) (g .value)))
+            rows to =
+                sym (ap flat (table-snoc to (r .pairs) (k .key) (g .value) (c₀ .at) (c₀ .node) (suc (c₀ .ordinal)) (c .at) (c .node) (suc (mid .ordinal)) (r .behind) (r .node) (sym ordinals-are))
+                ∙ flat-append (tableIn to (c₀ .at) (c₀ .node) (suc (c₀ .ordinal)) (r .pairs)) (keyNode (c .at) (c .node) (k .key) ∷ table to (valueOffset (c .at) (k .key)) (suc (c .node)) (suc (mid .ordinal)) (g .value))
+                ∙ ap (λ (n : ℕ). before to ++ (words (keyNode (c .at) (c .node) (k .key)) ++ flat (table to n (suc (c .node)) (suc (mid .ordinal)) (g .value)))) (sym key-long)
+                ∙ ap (λ (n : ℕ). before to ++ (words (keyNode (c .at) (c .node) (k .key)) ++ flat (table to (mid .at) n (suc (mid .ordinal)) (g .value)))) next-node)
+
+        pub run-more : Run s t₀ t₂ capacity container count c₀ next (more - 1) higher
+        run-more =
+            record {
+              pairs = snoc (r .pairs) (k .key) (g .value);
+              earlier = k .key ∷ r .earlier;
+              all = r .all ∙ ap (onto (r .pairs)) rest-good ∙ onto-snoc (r .pairs) (k .key) (g .value) (restAt s capacity container (c₀ .levels) (more - 1) (k .key ∷ r .earlier) next);
+              keys = listed;
+              node = omega (arith, r .node, k .node, g .node, nodes-snoc (r .pairs) (k .key) (g .value));
+              ordinal = omega (arith, r .ordinal, k .ordinal, g .ordinal, ordinals-snoc (r .pairs) (k .key) (g .value));
+              behind = omega (arith, r .behind, key-long, value-long, length-snoc (r .pairs) (k .key) (g .value));
+              levels = g .levels ∙ k .levels ∙ r .levels;
+              fit = fits (r .fit);
+              kept = λ i h. same-below i (omega (arith, r .node)) ∙ r .kept i h;
+              wrote = record { of = writes };
+              long = l₂ ∙ l₁ ∙ r .long;
+            }
+          where
+            fits : Fit s t capacity c → Fit s t₂ capacity next
+            fits f = record { inside = g .inside; table = omega arith; node = g .fits; ordinal = omega (arith, g .ordinal, g .node, k .ordinal, k .node, ordinals-le (g .value)) }
+
+pub pairs-bad : (s t t′ : List ℕ) (capacity : ℕ) (c : Cursor) (o : Answer (Values × List ℕ)) (r : Step) (code at : ℕ) → r ≡ Step.Refused code at → o ≡ refused code at → MeetsPairs s t t′ capacity c o r
+pairs-bad s t t′ capacity c o r code at e h = subst (MeetsPairs s t t′ capacity c o) (sym e) h

@@ -1,0 +1,25 @@
+-- `reader::cursor::refused` meets its contract. Assumes nothing.
+use Prim.Native.Nat.{_-_}
+use mathlib.Core.Path.{sym, ap}
+use Rattle.scanner.specs.declared.Scan.{Scan}
+use Rattle.reader.specs.Steps.{refusalOf}
+use borrow.Author.Needs.{needs}
+use Rattle.reader.proofs.cursor.refused.Statement.{statement}
+use Rattle.reader.proofs.cursor.refused.Tie as tie
+
+enum-known-scan : tie.Need-enum-known-scan
+enum-known-scan c = search needs
+
+enum-told : tie.Need-enum-told
+enum-told c = search needs
+
+returns : tie.Need-returns
+unfolding refusalOf
+returns c = ap (λ (x : Scan). refusalOf x (c .before .before .before .args .at)) (sym (c .before .scan .given .1))
+
+returns-2 : tie.Need-returns-2
+unfolding refusalOf
+returns-2 c = ap (λ (x : Scan). refusalOf x (c .before .before .args .at)) (sym (c .enum-told .given .1))
+
+pub refused-spec : {M : Type 1} → statement M
+refused-spec = tie.close (tie.spec enum-known-scan enum-told returns returns-2)

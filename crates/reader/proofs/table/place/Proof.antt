@@ -1,0 +1,29 @@
+-- `reader::table::place` meets its contract. Assumes nothing.
+use borrow.Author.Needs.{needs}
+use Prim.Native.Nat.{_-_}
+use mathlib.Core.Logic.{inl, inr, ⊎-elim}
+use Rattle.reader.proofs.Placing as placing
+use Rattle.reader.proofs.table.place.Statement.{statement}
+use Rattle.reader.proofs.table.place.Tie as tie
+
+add-ordinal : tie.Need-add-ordinal
+add-ordinal c = search needs
+
+add-put-node : tie.Need-add-put-node
+add-put-node c = search needs
+
+put-node-requires : tie.Need-put-node-requires
+put-node-requires c κs = search needs
+
+add-t14 : tie.Need-add-t14
+add-t14 c = search needs
+
+same-length : tie.Need-same-length
+same-length c = search needs
+
+returns : tie.Need-returns
+returns c = placing.placed _ _ _ _ _ (c .before .before .before .before .before .before .args .taken) _ _ (⊎-elim (λ p. inl (p .0 .taken, p .1, p .2)) (λ p. inr (p .0 .left, p .1, p .2)) (c .before .before .before .before .if1 .came)) (c .before .before .put-node .ensures)
+
+pub place-spec : {M : Type 1} → statement M
+place-spec =
+    tie.close (tie.spec add-ordinal add-put-node put-node-requires add-t14 same-length returns)

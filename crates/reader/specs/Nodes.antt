@@ -1,0 +1,30 @@
+-- Nodes as the table has them.
+use mathlib.Core.Path.{_≡_}
+use mathlib.Core.List.{List}
+use mathlib.Core.Bool.{Bool}
+use Prim.Native.Nat.{ℕ, _+_, _*_, _≤_, _<_}
+use lib.ListN.{getD}
+use lib.Seq.{sets}
+use Rattle.format.specs.Tree.{one}
+use Rattle.format.specs.Table.{Node, words, width, taken}
+use Rattle.scanner.specs.declared.Text.{Text}
+use Rattle.reader.specs.declared.cursor.Cursor.{Cursor}
+
+-- a node whose words 2, 3 and 4 a text tells
+abbrev pub nodeOf : (tag ordinal end : ℕ) → Text → Node
+nodeOf tag ordinal end x = record { tag = tag; ordinal = ordinal; content = x .content; size = x .size; link = x .link; end = end }
+
+-- a word of a node
+abbrev pub wordAt : List ℕ → (node k : ℕ) → ℕ
+wordAt t node k = getD t (node * width + k) 0
+
+-- a node that holds none is written, and the cursor stands behind it
+pub record Placed (t t′ : List ℕ) (c : Cursor) (tag : ℕ) (x : Text) (own : Bool) (r : Cursor) : Type 0 where
+  pub table : t′ ≡ sets t (c .node * width) (words (nodeOf tag (taken own (c .ordinal + 1)) (c .node + 1) x))
+  pub cursor : r ≡ record { at = x .next; node = c .node + 1; ordinal = c .ordinal + one own; levels = c .levels }
+
+-- the first of so many nodes that carries the ordinal, or their count
+pub record FirstAt (t : List ℕ) (nodes ordinal r : ℕ) : Type 0 where
+  pub inside : r ≤ nodes
+  pub found : r < nodes → wordAt t r 1 ≡ ordinal
+  pub before : (i : ℕ) → i < r → wordAt t i 1 ≡ ordinal → ⊥

@@ -1,0 +1,175 @@
+-- What a step of reading answers and leaves in the table, by the definitions of `Read`.
+use mathlib.Core.Path.{_≡_}
+use mathlib.Core.Bool.{true}
+use mathlib.Core.List.{List, []}
+use Prim.Native.Nat.{ℕ, suc, _+_, _-_, _*_, _≤_, _<_}
+use lib.Dec.{T}
+use lib.ListN.{length, getD, drop}
+use lib.Seq.{sets}
+use Rattle.format.specs.Kind.{kinds, isTagOf}
+use Rattle.format.specs.Tree.{leaf, ref, branch, none, pair, nodes, nodesIn, ordinals, ordinalsIn}
+use Rattle.format.specs.Syntax.{Key, Value, Values, own}
+use Rattle.format.specs.Keys.{hasKey}
+use Rattle.format.specs.Answer.{Answer, ok, refused}
+use Rattle.format.specs.Read.{setting, Inner, readKey, readPairs, readBody, readValue, read}
+use Rattle.format.specs.Table.{words, width, flat, keyNode, table, tableIn, tableOf}
+use Rattle.scanner.specs.declared.Scan.{Scan}
+use Rattle.reader.specs.declared.cursor.Cursor.{Cursor}
+use Rattle.reader.specs.declared.cursor.Step.{Step}
+use Rattle.reader.specs.declared.cursor.Gate.{Gate}
+use Rattle.reader.specs.declared.seen.Highest.{Highest}
+use Rattle.reader.specs.Texts.{kindFor, isArrayTag}
+use Rattle.reader.specs.Nodes.{wordAt}
+use Rattle.reader.specs.KeysSeen.{Held, keyWords, Chain, Under}
+
+-- ---- ordinals and the nodes that take them
+
+-- `to` names the node of each ordinal taken so far
+pub record Points (to : ℕ → ℕ) (t : List ℕ) (node ordinal : ℕ) : Type 0 where
+  pub below : (i : ℕ) → i < node → wordAt t i 1 ≤ ordinal
+  pub found : (n : ℕ) → 1 ≤ n → n ≤ ordinal → (to n < node) × (wordAt t (to n) 1 ≡ n)
+  pub only : (n i : ℕ) → 1 ≤ n → i < node → wordAt t i 1 ≡ n → i ≡ to n
+
+-- `to` names the nodes of a value's ordinals: its own node is i, the next ordinal n
+abbrev mutual
+  pub Takes : (to : ℕ → ℕ) (i n : ℕ) → Value → Type 0
+  Takes to i n (leaf x) = to n ≡ i
+  Takes to i n (ref r) = T (own r) → to n ≡ i
+  Takes to i n (branch h ps) = (to n ≡ i) × TakesIn to (suc i) (suc n) ps
+
+  pub TakesIn : (to : ℕ → ℕ) (i n : ℕ) → Values → Type 0
+  TakesIn to i n none = Unit {0}
+  TakesIn to i n (pair k v ps) = Takes to (suc i) n v × TakesIn to (suc (i + nodes v)) (n + ordinals own v) ps
+
+-- ---- reading at a cursor
+
+-- a value with so many levels left
+unfoldable pub innerAt : (s : List ℕ) (capacity levels : ℕ) → Inner
+innerAt s capacity levels seen before rest = readValue (setting capacity s) levels seen before rest
+
+unfoldable pub valueAt : (s : List ℕ) (capacity : ℕ) → Cursor → Answer (Value × List ℕ)
+valueAt s capacity c = readValue (setting capacity s) (c .levels) (c .ordinal) (c .node) (drop (c .at) s)
+
+-- what follows the tag of a value
+unfoldable pub bodyAt : (s : List ℕ) (capacity : ℕ) → Inner → (tag : ℕ) → Cursor → Answer (Value × List ℕ)
+bodyAt s capacity inner tag c = readBody (setting capacity s) inner (kindFor tag) (c .at) (c .ordinal) (c .node) (drop (c .at + 1) s)
+
+-- so many pairs of a container with this tag
+unfoldable pub pairsAt : (s : List ℕ) (capacity container count : ℕ) → Cursor → Answer (Values × List ℕ)
+pairsAt s capacity container count c = readPairs (setting capacity s) (innerAt s capacity (c .levels)) (isArrayTag container) count [] (c .ordinal) (c .node) (drop (c .at) s)
+
+unfoldable pub keyAt : (s : List ℕ) (capacity container : ℕ) → (earlier : List Key) → Cursor → Answer (Key × List ℕ)
+keyAt s capacity container earlier c = readKey (setting capacity s) (isArrayTag container) earlier (c .node) (drop (c .at) s)
+
+-- ---- what a step leaves
+
+-- a cursor is within the source and the table, and no more ordinals than nodes are taken
+pub record Fit (s t : List ℕ) (capacity : ℕ) (c : Cursor) : Type 0 where
+  pub inside : c .at ≤ length s
+  pub table : capacity * width ≤ length t
+  pub node : c .node ≤ capacity
+  pub ordinal : c .ordinal ≤ c .node
+
+-- the words before those of a node are as they were
+abbrev pub Kept : List ℕ → List ℕ → ℕ → Type 0
+Kept t t′ node = (i : ℕ) → i < node * width → getD t′ i 0 ≡ getD t i 0
+
+-- a value's words stand in the table, whichever nodes the ordinals before it belong to
+pub record Wrote (t t′ : List ℕ) (c c′ : Cursor) (v : Value) : Type 0 where
+  pub of : (to : ℕ → ℕ) → Points to t (c .node) (c .ordinal) → Takes to (c .node) (suc (c .ordinal)) v
+      → (t′ ≡ sets t (c .node * width) (flat (table to (c .at) (c .node) (suc (c .ordinal)) v))) × Points to t′ (c′ .node) (c′ .ordinal)
+
+pub record WroteIn (t t′ : List ℕ) (c c′ : Cursor) (ps : Values) : Type 0 where
+  pub of : (to : ℕ → ℕ) → Points to t (c .node) (c .ordinal) → TakesIn to (c .node) (suc (c .ordinal)) ps
+      → (t′ ≡ sets t (c .node * width) (flat (tableIn to (c .at) (c .node) (suc (c .ordinal)) ps))) × Points to t′ (c′ .node) (c′ .ordinal)
+
+-- a value is read, and its words are written
+pub record GoodValue (s t t′ : List ℕ) (capacity : ℕ) (c : Cursor) (o : Answer (Value × List ℕ)) (c′ : Cursor) : Type 0 where
+  pub value : Value
+  pub is : o ≡ ok (value, drop (c′ .at) s)
+  pub on : c .at < c′ .at
+  pub inside : c′ .at ≤ length s
+  pub node : c′ .node ≡ c .node + nodes value
+  pub fits : c′ .node ≤ capacity
+  pub ordinal : c′ .ordinal ≡ c .ordinal + ordinals own value
+  pub levels : c′ .levels ≡ c .levels
+  pub end : wordAt t′ (c .node) 5 ≡ c′ .node
+  pub kept : Kept t t′ (c .node)
+  pub wrote : Wrote t t′ c c′ value
+
+-- a refusal says nothing of the table: `read` clears it
+abbrev pub Meets : (s t t′ : List ℕ) (capacity : ℕ) (c : Cursor) → Answer (Value × List ℕ) → Step → Type 0
+Meets s t t′ capacity c o (Step.Done c′) = GoodValue s t t′ capacity c o c′
+Meets s t t′ capacity c o (Step.Refused code at) = o ≡ refused code at
+
+-- the same of pairs
+pub record GoodPairs (s t t′ : List ℕ) (capacity : ℕ) (c : Cursor) (o : Answer (Values × List ℕ)) (c′ : Cursor) : Type 0 where
+  pub pairs : Values
+  pub is : o ≡ ok (pairs, drop (c′ .at) s)
+  pub on : c .at ≤ c′ .at
+  pub inside : c′ .at ≤ length s
+  pub node : c′ .node ≡ c .node + nodesIn pairs
+  pub fits : c′ .node ≤ capacity
+  pub ordinal : c′ .ordinal ≡ c .ordinal + ordinalsIn own pairs
+  pub levels : c′ .levels ≡ c .levels
+  pub kept : Kept t t′ (c .node)
+  pub wrote : WroteIn t t′ c c′ pairs
+
+abbrev pub MeetsPairs : (s t t′ : List ℕ) (capacity : ℕ) (c : Cursor) → Answer (Values × List ℕ) → Step → Type 0
+MeetsPairs s t t′ capacity c o (Step.Done c′) = GoodPairs s t t′ capacity c o c′
+MeetsPairs s t t′ capacity c o (Step.Refused code at) = o ≡ refused code at
+
+-- the same of a key
+pub record GoodKey (s t t′ : List ℕ) (capacity : ℕ) (c : Cursor) (o : Answer (Key × List ℕ)) (c′ : Cursor) : Type 0 where
+  pub key : Key
+  pub is : o ≡ ok (key, drop (c′ .at) s)
+  pub on : c .at < c′ .at
+  pub inside : c′ .at ≤ length s
+  pub node : c′ .node ≡ c .node + 1
+  pub fits : c′ .node ≤ capacity
+  pub ordinal : c′ .ordinal ≡ c .ordinal
+  pub levels : c′ .levels ≡ c .levels
+  pub table : t′ ≡ sets t (c .node * width) (words (keyNode (c .at) (c .node) key))
+  pub held : Held s key (keyWords t′ (c .node))
+
+abbrev pub MeetsKey : (s t t′ : List ℕ) (capacity : ℕ) (c : Cursor) → Answer (Key × List ℕ) → Step → Type 0
+MeetsKey s t t′ capacity c o (Step.Done c′) = GoodKey s t t′ capacity c o c′
+MeetsKey s t t′ capacity c o (Step.Refused code at) = o ≡ refused code at
+
+-- the keys read before are those that stand in the table
+pub record Earlier (s t : List ℕ) (first node : ℕ) (highest : Highest) (earlier : List Key) : Type 0 where
+  pub keys : List Key
+  pub chain : Chain s t first node keys
+  pub same : (k : Key) → hasKey k earlier ≡ hasKey k keys
+  pub under : Under highest keys
+
+-- the checks at a value's tag
+pub record IsOpen (s : List ℕ) (capacity : ℕ) (c : Cursor) (tag : ℕ) : Type 0 where
+  pub inside : c .at < length s
+  pub is : getD s (c .at) 0 ≡ tag
+  pub known : isTagOf kinds tag ≡ true
+  pub level : 0 < c .levels
+  pub room : c .node < capacity
+
+abbrev pub GateAt : (s : List ℕ) (capacity : ℕ) (c : Cursor) → Gate → Type 0
+GateAt s capacity c (Gate.Open tag) = IsOpen s capacity c tag
+GateAt s capacity c (Gate.Shut code) = valueAt s capacity c ≡ refused code (c .at)
+
+-- the refusal that a text asks for
+unfoldable pub refusalOf : Scan → (at : ℕ) → Step
+refusalOf (Scan.Is x) at = Step.Refused 2 at
+refusalOf (Scan.Not code) at = Step.Refused code at
+
+-- ---- a whole plan
+
+pub record GoodWhole (s t t′ : List ℕ) (capacity : ℕ) (c : Cursor) : Type 0 where
+  pub value : Value
+  pub is : read capacity s ≡ ok value
+  pub node : c .node ≡ nodes value
+  pub fits : c .node ≤ capacity
+  pub ordinal : c .ordinal ≡ ordinals own value
+  pub table : t′ ≡ sets t 0 (flat (tableOf value))
+
+abbrev pub Whole : (s t t′ : List ℕ) (capacity : ℕ) → Step → Type 0
+Whole s t t′ capacity (Step.Done c) = GoodWhole s t t′ capacity c
+Whole s t t′ capacity (Step.Refused code at) = read capacity s ≡ refused code at

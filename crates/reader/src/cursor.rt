@@ -1,0 +1,62 @@
+// How far reading is, what a step of it answers, and the checks at a value's tag.
+use format::kind::Kind;
+use scanner::Scan;
+ghost use mathlib.Core.Path.{_≡_};
+ghost use Prim.Native.Nat.{_≤_};
+ghost use lib.ListN.{length};
+ghost use Rattle.reader.specs.Steps.{refusalOf, GateAt};
+
+// The next byte, the next node, the ordinals taken and the levels left.
+pub struct Cursor {
+    pub at: usize,
+    pub node: usize,
+    pub ordinal: usize,
+    pub levels: usize,
+}
+
+// A step's answer: the cursor behind it, or the refusal's number and position.
+pub enum Step {
+    Done(Cursor),
+    Refused(u8, usize),
+}
+
+// The checks at a value's tag: the tag, or the refusal's number.
+pub enum Gate {
+    Open(u8),
+    Shut(u8),
+}
+
+// The refusal of a text whose tag stands at an index.
+pub(crate) fn refused(scan: Scan, at: usize) -> Step
+    ensures { λ r. ⌜ r ≡ refusalOf scan at ⌝ }
+{
+    match scan {
+        Scan::Not(code) => Step::Refused(code, at),
+        Scan::Is(_) => Step::Refused(2, at),
+    }
+}
+
+// "At a letter: 3 or 4, then 8, then 7": the checks at a value's tag.
+pub(crate) fn check_tag(source: &[u8], capacity: usize, cursor: Cursor) -> Gate
+    requires { ⌜ cursor .at ≤ length (now source) ⌝ }
+    ensures { λ r. ⌜ GateAt (now (source .entry)) capacity cursor r ⌝ }
+{
+    let at = cursor.at;
+    let node = cursor.node;
+    let levels = cursor.levels;
+    if source.len() <= at {
+        return Gate::Shut(2);
+    }
+    let tag = source[at];
+    let kind = Kind { tag };
+    if !kind.is_known() {
+        return Gate::Shut(3);
+    }
+    if levels == 0 {
+        return Gate::Shut(8);
+    }
+    if capacity <= node {
+        return Gate::Shut(7);
+    }
+    Gate::Open(tag)
+}

@@ -1,0 +1,89 @@
+// A key of a container.
+use crate::cursor::Cursor;
+use crate::cursor::Step;
+use crate::cursor::refused;
+use crate::seen::Highest;
+use crate::seen::KeyWords;
+use crate::seen::key_seen;
+use crate::table::place;
+use format::kind::Kind;
+use scanner::Scan;
+ghost use mathlib.Core.Path.{_≡_};
+ghost use mathlib.Core.Bool.{true};
+ghost use mathlib.Core.List.{List};
+ghost use Prim.Native.Nat.{_+_, _<_};
+ghost use lib.Dec.{eqb};
+ghost use lib.ListN.{length};
+ghost use Rattle.format.specs.Kind.{isTagOf, keyKinds, mayBeKey};
+ghost use Rattle.format.specs.Syntax.{Key};
+ghost use Rattle.format.specs.Read.{keyText};
+ghost use Rattle.scanner.specs.Scans.{Scans};
+ghost use Rattle.reader.specs.Texts.{kindFor, isArrayTag, keyTold};
+ghost use Rattle.reader.specs.KeysSeen.{Walk};
+ghost use Rattle.reader.specs.Steps.{Fit, Earlier, keyAt, MeetsKey};
+
+// Whether a tag may begin a key of a container with this tag.
+fn key_allowed(tag: u8, container: u8) -> bool
+    ensures { λ r. ⌜ r ≡ isTagOf (keyKinds (isArrayTag container)) tag ⌝ }
+{
+    let kind = Kind { tag };
+    if !kind.may_be_key() {
+        return false;
+    }
+    if tag == Kind::STRING {
+        return true;
+    }
+    container == Kind::ARRAY
+}
+
+// The text of a key whose tag stands at an index.
+fn key_text(source: &[u8], at: usize, tag: u8) -> Scan
+    requires { ⌜ (at < length (now source)) × (mayBeKey tag ≡ true) ⌝ }
+    ensures { λ r. ⌜ Scans (keyText (kindFor tag)) (keyTold (at + 1)) (now (source .entry)) (at + 1) r ⌝ }
+{
+    match tag {
+        Kind::INT => scanner::number::int(source, at + 1),
+        _ => scanner::quoted::quoted(source, at + 1, b';'),
+    }
+}
+
+// A key of the container whose pairs begin at node `first`: 4, then 7, then the text, then 9.
+pub(crate) fn read_key(
+    source: &[u8],
+    table: &mut [u64],
+    capacity: usize,
+    container: u8,
+    first: usize,
+    highest: Highest,
+    cursor: Cursor,
+) -> Step
+    requires { ⌜ Fit (now source) (now table) capacity cursor ⌝ }
+    requires { ⌜ Walk (now source) (now table) first (cursor .node) ⌝ }
+    ensures { λ r. ⌜ ((earlier : List Key) → Earlier (now (source .entry)) (now (table .entry)) first (cursor .node) highest earlier → MeetsKey (now (source .entry)) (now (table .entry)) (now (table .exit)) capacity cursor (keyAt (now (source .entry)) capacity container earlier cursor) r) ⌝ }
+{
+    let at = cursor.at;
+    let node = cursor.node;
+    if source.len() <= at {
+        return Step::Refused(2, at);
+    }
+    let tag = source[at];
+    if !key_allowed(tag, container) {
+        return Step::Refused(4, at);
+    }
+    if capacity <= node {
+        return Step::Refused(7, at);
+    }
+    let scan = key_text(source, at, tag);
+    let Scan::Is(text) = scan else {
+        return refused(scan, at);
+    };
+    let key = KeyWords {
+        tag: tag as u64,
+        content: text.content,
+        size: text.size,
+    };
+    if key_seen(source, table, first, node, key, highest) {
+        return Step::Refused(9, at);
+    }
+    Step::Done(place(table, cursor, tag, text, false))
+}

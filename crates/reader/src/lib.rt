@@ -1,0 +1,66 @@
+// Reads a plan into a node table, or refuses it.
+use crate::cursor::Cursor;
+use crate::cursor::Step;
+ghost use Prim.Native.Nat.{_*_, _≤_};
+ghost use lib.ListN.{length};
+ghost use Rattle.format.specs.Table.{width};
+ghost use Rattle.reader.specs.Promise.{Reads};
+ghost use Rattle.reader.specs.Steps.{Whole};
+
+mod cursor;
+mod head;
+mod key;
+mod leaf;
+mod lookup;
+mod seen;
+mod table;
+mod value;
+
+// What reading answers: the nodes written and the ordinals taken, or a refusal's number and position.
+pub enum Reading {
+    Accepted { nodes: usize, ordinals: usize },
+    Refused { code: u8, at: usize },
+}
+
+// A whole plan; a refusal leaves the table as it falls.
+fn read_whole(source: &[u8], table: &mut [u64], capacity: usize) -> Step
+    requires { ⌜ capacity * width ≤ length (now table) ⌝ }
+    ensures { λ r. ⌜ Whole (now (source .entry)) (now (table .entry)) (now (table .exit)) capacity r ⌝ }
+{
+    if 65536 < source.len() {
+        return Step::Refused(1, 0);
+    }
+    let start = Cursor {
+        at: 0,
+        node: 0,
+        ordinal: 0,
+        levels: 64,
+    };
+    let step = value::read_value(source, table, capacity, start);
+    let Step::Done(end) = step else {
+        return step;
+    };
+    let at = end.at;
+    if at < source.len() {
+        return Step::Refused(10, at);
+    }
+    step
+}
+
+// Reads a plan into the table; a refusal makes every word of it zero.
+pub fn read(source: &[u8], table: &mut [u64]) -> Reading
+    ensures { λ r. ⌜ Reads (now (source .entry)) (now (table .entry)) (now (table .exit)) r ⌝ }
+{
+    let capacity = table.len() / 6;
+    let step = read_whole(source, table, capacity);
+    match step {
+        Step::Refused(code, at) => {
+            table::clear(table);
+            Reading::Refused { code, at }
+        }
+        Step::Done(end) => Reading::Accepted {
+            nodes: end.node,
+            ordinals: end.ordinal,
+        },
+    }
+}

@@ -1,0 +1,128 @@
+// Whether a key equals an earlier one of its container: by a walk over the pairs, or at once for an integer above all before.
+use scanner::bytes::same_bytes;
+ghost use mathlib.Core.Path.{_≡_};
+ghost use mathlib.Core.List.{List};
+ghost use Prim.Native.Nat.{_+_, _*_, _≤_};
+ghost use lib.ListN.{length};
+ghost use Rattle.format.specs.Syntax.{Key};
+ghost use Rattle.format.specs.Keys.{sameKey, hasKey};
+ghost use Rattle.format.specs.Table.{width};
+ghost use Rattle.reader.specs.KeysSeen.{rank, Held, HeldKey, keyWords, Chain, Walk, Under, Raised};
+
+// A key by words 0, 2 and 3 of its node.
+pub struct KeyWords {
+    pub tag: u64,
+    pub content: u64,
+    pub size: u64,
+}
+
+// The highest rank of the integer keys so far.
+pub enum Highest {
+    Nothing,
+    At(u64),
+}
+
+// The place of an integer's pattern in the order of the integers.
+fn rank(pattern: u64) -> u64
+    ensures { λ r. ⌜ r ≡ rank pattern ⌝ }
+{
+    std::num::wrapping_add_u64(pattern, 9223372036854775808)
+}
+
+// The key that stands at a node.
+pub(crate) fn key_at(table: &[u64], node: usize) -> KeyWords
+    requires { ⌜ node * width + width ≤ length (now table) ⌝ }
+    ensures { λ r. ⌜ r ≡ keyWords (now (table .entry)) node ⌝ }
+{
+    let k = node * 6;
+    KeyWords {
+        tag: table[k],
+        content: table[k + 2],
+        size: table[k + 3],
+    }
+}
+
+// Whether two keys are equal: two integers with one pattern, or two strings of the same bytes.
+fn same_key(source: &[u8], a: KeyWords, b: KeyWords) -> bool
+    requires { ⌜ HeldKey (now source) a × HeldKey (now source) b ⌝ }
+    ensures { λ r. ⌜ ((j k : Key) → Held (now (source .entry)) j a → Held (now (source .entry)) k b → r ≡ sameKey k j) ⌝ }
+{
+    if a.tag != b.tag {
+        return false;
+    }
+    if a.tag == 105 {
+        return b.content == a.content;
+    }
+    if b.size != a.size {
+        return false;
+    }
+    let from = a.content as usize;
+    let start = b.content as usize;
+    let size = a.size as usize;
+    let to = from + size;
+    let end = start + size;
+    same_bytes(&source[start..end], &source[from..to])
+}
+
+// Whether a key equals one of those of the pairs that stand from node `first` up to `node`, one by one.
+fn walk(source: &[u8], table: &[u64], first: usize, node: usize, key: KeyWords) -> bool
+    requires { ⌜ node * width ≤ length (now table) ⌝ }
+    requires { ⌜ Walk (now source) (now table) first node ⌝ }
+    requires { ⌜ HeldKey (now source) key ⌝ }
+    ensures { λ r. ⌜ ((k : Key) (ks : List Key) → Held (now (source .entry)) k key → Chain (now (source .entry)) (now (table .entry)) first node ks → r ≡ hasKey k ks) ⌝ }
+{
+    let mut i = first;
+    while i < node {
+        if same_key(source, key_at(table, i), key) {
+            return true;
+        }
+        i = table[i * 6 + 11] as usize;
+    }
+    false
+}
+
+// The same; an integer above the highest is new.
+pub(crate) fn key_seen(
+    source: &[u8],
+    table: &[u64],
+    first: usize,
+    node: usize,
+    key: KeyWords,
+    highest: Highest,
+) -> bool
+    requires { ⌜ node * width ≤ length (now table) ⌝ }
+    requires { ⌜ Walk (now source) (now table) first node ⌝ }
+    requires { ⌜ HeldKey (now source) key ⌝ }
+    ensures { λ r. ⌜ ((k : Key) (ks : List Key) → Held (now (source .entry)) k key → Chain (now (source .entry)) (now (table .entry)) first node ks → Under highest ks → r ≡ hasKey k ks) ⌝ }
+{
+    if key.tag == 105 {
+        match highest {
+            Highest::Nothing => return false,
+            Highest::At(top) => {
+                if top < rank(key.content) {
+                    return false;
+                }
+            }
+        }
+    }
+    walk(source, table, first, node, key)
+}
+
+// The highest rank after one key more.
+pub(crate) fn raised(highest: Highest, key: KeyWords) -> Highest
+    ensures { λ r. ⌜ Raised highest key r ⌝ }
+{
+    if key.tag != 105 {
+        return highest;
+    }
+    let new = rank(key.content);
+    match highest {
+        Highest::Nothing => Highest::At(new),
+        Highest::At(top) => {
+            if new <= top {
+                return highest;
+            }
+            Highest::At(new)
+        }
+    }
+}

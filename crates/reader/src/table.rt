@@ -1,0 +1,64 @@
+// The node table: six words to a node.
+use crate::cursor::Cursor;
+use scanner::Text;
+ghost use mathlib.Core.Path.{_≡_};
+ghost use mathlib.Core.List.{[], _∷_};
+ghost use Prim.Native.Nat.{_+_, _*_, _≤_};
+ghost use lib.ListN.{length, replicate};
+ghost use lib.Seq.{sets};
+ghost use Rattle.format.specs.Table.{width, words};
+ghost use Rattle.reader.specs.Nodes.{nodeOf, Placed};
+
+// Writes the words of a node.
+pub(crate) fn put_node(table: &mut [u64], node: usize, tag: u8, ordinal: u64, text: Text, end: u64)
+    requires { ⌜ node * width + width ≤ length (now table) ⌝ }
+    ensures { λ _. ⌜ now (table .exit) ≡ sets (now (table .entry)) (node * width) (words (nodeOf tag ordinal end text)) ⌝ }
+{
+    let k = node * 6;
+    table[k] = tag as u64;
+    table[k + 1] = ordinal;
+    table[k + 2] = text.content;
+    table[k + 3] = text.size;
+    table[k + 4] = text.link;
+    table[k + 5] = end;
+}
+
+// Writes word 5 of a node, once it is known where it ends.
+pub(crate) fn put_end(table: &mut [u64], node: usize, end: u64)
+    requires { ⌜ node * width + width ≤ length (now table) ⌝ }
+    ensures { λ _. ⌜ now (table .exit) ≡ sets (now (table .entry)) (node * width + 5) (end ∷ []) ⌝ }
+{
+    table[node * 6 + 5] = end;
+}
+
+// Writes the node of a key, or of a value that holds none, with the next ordinal if it takes one; the cursor behind it.
+pub(crate) fn place(table: &mut [u64], cursor: Cursor, tag: u8, text: Text, taken: bool) -> Cursor
+    requires { ⌜ (cursor .node * width + width ≤ length (now table)) × (cursor .ordinal ≤ cursor .node) ⌝ }
+    ensures { λ r. ⌜ Placed (now (table .entry)) (now (table .exit)) cursor tag text taken r ⌝ }
+{
+    let node = cursor.node;
+    let mut ordinal = cursor.ordinal;
+    let mut own = 0;
+    if taken {
+        ordinal += 1;
+        own = ordinal;
+    }
+    put_node(table, node, tag, own as u64, text, (node + 1) as u64);
+    Cursor {
+        at: text.next,
+        node: node + 1,
+        ordinal,
+        levels: cursor.levels,
+    }
+}
+
+// Makes every word zero.
+pub(crate) fn clear(table: &mut [u64])
+    ensures { λ _. ⌜ now (table .exit) ≡ replicate (length (now (table .entry))) 0 ⌝ }
+{
+    let mut i = 0;
+    while i < table.len() {
+        table[i] = 0;
+        i += 1;
+    }
+}

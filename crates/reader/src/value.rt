@@ -1,0 +1,117 @@
+// Values and pairs, in a cycle: a container's pairs hold values, and the bytes left fall at each call.
+use crate::cursor::Cursor;
+use crate::cursor::Gate;
+use crate::cursor::Step;
+use crate::cursor::check_tag;
+use crate::cursor::refused;
+use crate::head::head;
+use crate::key::read_key;
+use crate::leaf::read_reference;
+use crate::leaf::read_scalar;
+use crate::seen::Highest;
+use crate::seen::key_at;
+use crate::seen::raised;
+use crate::table::put_end;
+use crate::table::put_node;
+use format::kind::Kind;
+use scanner::Scan;
+use scanner::bytes::byte_is;
+ghost use Prim.Native.Nat.{_-_, _<_};
+ghost use lib.ListN.{length};
+ghost use Rattle.reader.specs.Texts.{containerTag};
+ghost use Rattle.reader.specs.Steps.{Fit, valueAt, bodyAt, innerAt, pairsAt, Meets, MeetsPairs};
+
+// A value: "The kind of a byte decides everything that follows".
+pub(crate) fn read_value(source: &[u8], table: &mut [u64], capacity: usize, cursor: Cursor) -> Step
+    requires { ⌜ Fit (now source) (now table) capacity cursor ⌝ }
+    ensures { λ r. ⌜ Meets (now (source .entry)) (now (table .entry)) (now (table .exit)) capacity cursor (valueAt (now (source .entry)) capacity cursor) r ⌝ }
+{
+    let at = cursor.at;
+    let gate = check_tag(source, capacity, cursor);
+    match gate {
+        Gate::Shut(code) => Step::Refused(code, at),
+        Gate::Open(tag) => match tag {
+            Kind::ARRAY | Kind::OBJECT => read_container(source, table, capacity, cursor, tag),
+            Kind::OBJECT_REFERENCE | Kind::VARIABLE_REFERENCE => {
+                read_reference(source, table, capacity, cursor, tag)
+            }
+            _ => read_scalar(source, table, capacity, cursor, tag),
+        },
+    }
+}
+
+// A container: its head, its pairs and its closing brace; its node's end is known last.
+fn read_container(
+    source: &[u8],
+    table: &mut [u64],
+    capacity: usize,
+    cursor: Cursor,
+    tag: u8,
+) -> Step
+    requires { ⌜ Fit (now source) (now table) capacity cursor ⌝ }
+    requires { ⌜ (cursor .at < length (now source)) × (cursor .node < capacity) × (0 < cursor .levels) × containerTag tag ⌝ }
+    ensures { λ r. ⌜ Meets (now (source .entry)) (now (table .entry)) (now (table .exit)) capacity cursor (bodyAt (now (source .entry)) capacity (innerAt (now (source .entry)) capacity (cursor .levels - 1)) tag cursor) r ⌝ }
+{
+    let at = cursor.at;
+    let node = cursor.node;
+    let ordinal = cursor.ordinal;
+    let scan = head(source, at, tag);
+    let Scan::Is(text) = scan else {
+        return refused(scan, at);
+    };
+    put_node(table, node, tag, (ordinal + 1) as u64, text, 0);
+    let inside = Cursor {
+        at: text.next,
+        node: node + 1,
+        ordinal: ordinal + 1,
+        levels: cursor.levels - 1,
+    };
+    let step = read_pairs(source, table, capacity, tag, inside, text.link);
+    let Step::Done(last) = step else {
+        return step;
+    };
+    let end = last.at;
+    if !byte_is(source, end, b'}') {
+        return Step::Refused(2, at);
+    }
+    put_end(table, node, last.node as u64);
+    Step::Done(Cursor {
+        at: end + 1,
+        node: last.node,
+        ordinal: last.ordinal,
+        levels: cursor.levels,
+    })
+}
+
+// So many pairs of a container with this tag.
+fn read_pairs(
+    source: &[u8],
+    table: &mut [u64],
+    capacity: usize,
+    container: u8,
+    start: Cursor,
+    count: u64,
+) -> Step
+    requires { ⌜ Fit (now source) (now table) capacity start ⌝ }
+    ensures { λ r. ⌜ MeetsPairs (now (source .entry)) (now (table .entry)) (now (table .exit)) capacity start (pairsAt (now (source .entry)) capacity container count start) r ⌝ }
+{
+    let first = start.node;
+    let mut cursor = start;
+    let mut more = count;
+    let mut highest = Highest::Nothing;
+    while 0 < more {
+        let node = cursor.node;
+        let key = read_key(source, table, capacity, container, first, highest, cursor);
+        let Step::Done(behind) = key else {
+            return key;
+        };
+        highest = raised(highest, key_at(table, node));
+        let value = read_value(source, table, capacity, behind);
+        let Step::Done(next) = value else {
+            return value;
+        };
+        cursor = next;
+        more -= 1;
+    }
+    Step::Done(cursor)
+}
