@@ -2,7 +2,7 @@
 use Prim.Native.Nat.{ℕ, suc, zero, _+_, _-_, _*_, _≤_, _<_}
 use native.Mathlib.Numerals.{add-one}
 use native.Mathlib.Omega.{arith}
-use mathlib.Core.Path.{_≡_, refl, sym, ap, ap₂, _∙_, subst₂}
+use mathlib.Core.Path.{_≡_, refl, sym, ap, ap₂, _∙_, subst₂, subst}
 use mathlib.Core.Bool.{Bool, true, false}
 use mathlib.Core.List.{List, [], _∷_, _++_}
 use lib.Dec.{eqb, lit<}
@@ -25,7 +25,7 @@ use Rattle.scanner.proofs.Numbers.{unfit-of}
 use Rattle.reader.specs.declared.cursor.Cursor.{Cursor}
 use Rattle.reader.specs.declared.cursor.Step.{Step}
 use Rattle.reader.specs.Texts.{isArrayTag, containerTag, headText, containerTold, headTold}
-use Rattle.reader.specs.Nodes.{nodeOf}
+use Rattle.reader.specs.Nodes.{nodeOf, Entered}
 use Rattle.reader.specs.Steps.{Points, Takes, TakesIn, Fit, Kept, GoodValue, GoodPairs, Meets, innerAt, bodyAt, pairsAt, refusalOf}
 use Rattle.reader.proofs.Bodies.{pairsOf, body-head, head-array, head-node}
 use Rattle.reader.proofs.HeadTexts.{head-written}
@@ -46,6 +46,9 @@ pairs-count set inner a (suc n) earlier seen before s q e =
 -- the cursor at a container's first pair
 abbrev pub within : Cursor → (next : ℕ) → Cursor
 within c next = record { at = next; node = c .node + 1; ordinal = c .ordinal + 1; levels = c .levels - 1 }
+
+pub first-fit : (s t t₁ : List ℕ) (capacity : ℕ) (c inside : Cursor) (next : ℕ) → inside ≡ within c next → next ≤ length s → Fit s t capacity c → c .node < capacity → length t₁ ≡ length t → Fit s t₁ capacity inside
+first-fit s t t₁ capacity c inside next e h f room l = subst (Fit s t₁ capacity) (sym e) (record { inside = h; table = omega arith; node = omega arith; ordinal = omega arith })
 
 module _ (s : List ℕ) (capacity : ℕ) (c : Cursor) (b : ℕ) (is : containerTag b) where
   abbrev inner : Inner
@@ -94,15 +97,28 @@ module _ (s : List ℕ) (capacity : ℕ) (c : Cursor) (b : ℕ) (is : containerT
     entered : given ≡ (pairs >>= shut)
     entered = opened ∙ rw (f .is (c .at)) (ap (λ (o : Answer (Values × List ℕ)). o >>= shut) same-pairs)
 
-    pub pairs-refused : (code at : ℕ) → pairs ≡ refused code at → given ≡ refused code at
-    pairs-refused code at e = entered ∙ ap (λ (o : Answer (Values × List ℕ)). o >>= shut) e
+    -- the code's cursor is that one
+    at-first : (inside : Cursor) → inside ≡ within c (x .next) → pairs ≡ pairsAt s capacity b (x .link) inside
+    at-first inside e = ap (pairsAt s capacity b (x .link)) (sym e)
 
-    module _ (t t₁ t₂ t₃ : List ℕ) (fit : Fit s t capacity c) (room : c .node < capacity) (last : Cursor) (g : GoodPairs s t₁ t₂ capacity (within c (x .next)) pairs last) where
+    pub pairs-refused : (inside : Cursor) → inside ≡ within c (x .next) → (code at : ℕ) → pairsAt s capacity b (x .link) inside ≡ refused code at → given ≡ refused code at
+    pairs-refused inside i code at e = closed-by (at-first inside i ∙ e)
+      where
+        closed-by : pairs ≡ refused code at → given ≡ refused code at
+        closed-by e = entered ∙ ap (λ (o : Answer (Values × List ℕ)). o >>= shut) e
+
+    module _ (t t₁ t₂ t₃ : List ℕ) (fit : Fit s t capacity c) (room : c .node < capacity) (last : Cursor) (inside : Cursor) (first : Entered t t₁ c b x inside)
+        (read : GoodPairs s t₁ t₂ capacity inside (pairsAt s capacity b (x .link) inside) last) where
+      g : GoodPairs s t₁ t₂ capacity (within c (x .next)) pairs last
+      g = subst (λ (i : Cursor). GoodPairs s t₁ t₂ capacity i (pairsAt s capacity b (x .link) i) last) (first .cursor) read
+
       pub brace-missing : eqb (byteAt s (last .at)) (byte "}") ≡ false → given ≡ refused 2 (c .at)
       brace-missing e = entered ∙ ap (λ (o : Answer (Values × List ℕ)). o >>= shut) (g .is) ∙ rw (expect-no (c .at) s (last .at) (byte "}") [] e)
 
-      module _ (e : eqb (byteAt s (last .at)) (byte "}") ≡ true) (e₁ : t₁ ≡ sets t (c .node * width) (words (nodeOf b (c .ordinal + 1) 0 x)))
-          (l₂ : length t₂ ≡ length t₁) (e₃ : t₃ ≡ sets t₂ (c .node * width + 5) (last .node ∷ [])) where
+      module _ (e : eqb (byteAt s (last .at)) (byte "}") ≡ true) (l₂ : length t₂ ≡ length t₁) (e₃ : t₃ ≡ sets t₂ (c .node * width + 5) (last .node ∷ [])) where
+        e₁ : t₁ ≡ sets t (c .node * width) (words (nodeOf b (c .ordinal + 1) 0 x))
+        e₁ = first .table
+
         long : c .node * width + width ≤ length t
         long = omega arith
 

@@ -2,7 +2,7 @@
 use mathlib.Core.Path.{_≡_}
 use mathlib.Core.List.{List}
 use mathlib.Core.Bool.{Bool}
-use Prim.Native.Nat.{ℕ, _+_, _*_, _≤_, _<_}
+use Prim.Native.Nat.{ℕ, _+_, _-_, _*_, _≤_, _<_}
 use lib.ListN.{getD}
 use lib.Seq.{sets}
 use Rattle.format.specs.Tree.{one}
@@ -22,6 +22,11 @@ wordAt t node k = getD t (node * width + k) 0
 pub record Placed (t t′ : List ℕ) (c : Cursor) (tag : ℕ) (x : Text) (own : Bool) (r : Cursor) : Type 0 where
   pub table : t′ ≡ sets t (c .node * width) (words (nodeOf tag (taken own (c .ordinal + 1)) (c .node + 1) x))
   pub cursor : r ≡ record { at = x .next; node = c .node + 1; ordinal = c .ordinal + one own; levels = c .levels }
+
+-- a container's node is written but for its end, and the cursor stands at its first pair
+pub record Entered (t t′ : List ℕ) (c : Cursor) (tag : ℕ) (x : Text) (r : Cursor) : Type 0 where
+  pub table : t′ ≡ sets t (c .node * width) (words (nodeOf tag (c .ordinal + 1) 0 x))
+  pub cursor : r ≡ record { at = x .next; node = c .node + 1; ordinal = c .ordinal + 1; levels = c .levels - 1 }
 
 -- the first of so many nodes that carries the ordinal, or their count
 pub record FirstAt (t : List ℕ) (nodes ordinal r : ℕ) : Type 0 where

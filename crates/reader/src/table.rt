@@ -7,10 +7,10 @@ ghost use Prim.Native.Nat.{_+_, _*_, _≤_};
 ghost use lib.ListN.{length, replicate};
 ghost use lib.Seq.{sets};
 ghost use Rattle.format.specs.Table.{width, words};
-ghost use Rattle.reader.specs.Nodes.{nodeOf, Placed};
+ghost use Rattle.reader.specs.Nodes.{nodeOf, Placed, Entered};
 
 // Writes the words of a node.
-pub(crate) fn put_node(table: &mut [u64], node: usize, tag: u8, ordinal: u64, text: Text, end: u64)
+fn put_node(table: &mut [u64], node: usize, tag: u8, ordinal: u64, text: Text, end: u64)
     requires { ⌜ node * width + width ≤ length (now table) ⌝ }
     ensures { λ _. ⌜ now (table .exit) ≡ sets (now (table .entry)) (node * width) (words (nodeOf tag ordinal end text)) ⌝ }
 {
@@ -49,6 +49,22 @@ pub(crate) fn place(table: &mut [u64], cursor: Cursor, tag: u8, text: Text, take
         node: node + 1,
         ordinal,
         levels: cursor.levels,
+    }
+}
+
+// Writes the node of a container, whose end is not known yet; the cursor at its first pair.
+pub(crate) fn enter(table: &mut [u64], cursor: Cursor, tag: u8, text: Text) -> Cursor
+    requires { ⌜ (cursor .node * width + width ≤ length (now table)) × (cursor .ordinal ≤ cursor .node) × (1 ≤ cursor .levels) ⌝ }
+    ensures { λ r. ⌜ Entered (now (table .entry)) (now (table .exit)) cursor tag text r ⌝ }
+{
+    let node = cursor.node;
+    let ordinal = cursor.ordinal + 1;
+    put_node(table, node, tag, ordinal as u64, text, 0);
+    Cursor {
+        at: text.next,
+        node: node + 1,
+        ordinal,
+        levels: cursor.levels - 1,
     }
 }
 

@@ -11,8 +11,8 @@ use crate::leaf::read_scalar;
 use crate::seen::Highest;
 use crate::seen::key_at;
 use crate::seen::raised;
+use crate::table::enter;
 use crate::table::put_end;
-use crate::table::put_node;
 use format::kind::Kind;
 use scanner::Scan;
 use scanner::bytes::byte_is;
@@ -53,19 +53,11 @@ fn read_container(
     ensures { λ r. ⌜ Meets (now (source .entry)) (now (table .entry)) (now (table .exit)) capacity cursor (bodyAt (now (source .entry)) capacity (innerAt (now (source .entry)) capacity (cursor .levels - 1)) tag cursor) r ⌝ }
 {
     let at = cursor.at;
-    let node = cursor.node;
-    let ordinal = cursor.ordinal;
     let scan = head(source, at, tag);
     let Scan::Is(text) = scan else {
         return refused(scan, at);
     };
-    put_node(table, node, tag, (ordinal + 1) as u64, text, 0);
-    let inside = Cursor {
-        at: text.next,
-        node: node + 1,
-        ordinal: ordinal + 1,
-        levels: cursor.levels - 1,
-    };
+    let inside = enter(table, cursor, tag, text);
     let step = read_pairs(source, table, capacity, tag, inside, text.link);
     let Step::Done(last) = step else {
         return step;
@@ -74,7 +66,7 @@ fn read_container(
     if !byte_is(source, end, b'}') {
         return Step::Refused(2, at);
     }
-    put_end(table, node, last.node as u64);
+    put_end(table, cursor.node, last.node as u64);
     Step::Done(Cursor {
         at: end + 1,
         node: last.node,

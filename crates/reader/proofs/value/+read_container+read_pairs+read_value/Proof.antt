@@ -3,12 +3,13 @@ use Prim.Native.Nat.{ℕ, _<_, _+_, _*_, _-_}
 use borrow.Author.Needs.{needs}
 use borrow.Author.Tests.{not-true, not-false}
 use native.Mathlib.Omega.{arith}
-use mathlib.Core.Path.{sym, _∙_, subst}
+use mathlib.Core.Path.{sym, ap, _∙_, subst}
 use lib.Dec.{lit<}
 use lib.ListN.{length}
 use Rattle.format.specs.Bytes.{byte}
 use Rattle.scanner.proofs.BytesAt.{byte-there}
 use Rattle.scanner.proofs.Numbers.{found-of}
+use Rattle.reader.specs.declared.cursor.Cursor.{Cursor}
 use Rattle.reader.specs.Steps.{Meets, MeetsPairs, MeetsKey, GateAt}
 use Rattle.reader.proofs.Tagged as tagged
 use Rattle.reader.proofs.Leaves as leaves
@@ -33,8 +34,8 @@ use Rattle.reader.proofs.leaf.read_reference.Reads as read-reference-re
 use Rattle.reader.proofs.leaf.read_scalar.Reads as read-scalar-reads
 use Rattle.reader.proofs.seen.key_at.Reads as key-at-reads
 use Rattle.reader.proofs.seen.raised.Reads as raised-reads
+use Rattle.reader.proofs.table.enter.Reads as enter-reads
 use Rattle.reader.proofs.table.put_end.Reads as put-end-reads
-use Rattle.reader.proofs.table.put_node.Reads as put-node-reads
 use Rattle.scanner.proofs.bytes.byte_is.Reads as byte-is-reads
 use Rattle.reader.proofs.value.+read_container+read_pairs+read_value.{statement}
 use Rattle.reader.proofs.value.+read_container+read_pairs+read_value.Tie.{close}
@@ -93,8 +94,8 @@ pub +read-container+read-pairs+read-value-spec : {M : Type 1} → statement M
       head-reads.Learnt,
       refused-reads.Asked,
       refused-reads.Learnt,
-      put-node-reads.Asked,
-      put-node-reads.Learnt,
+      enter-reads.Asked,
+      enter-reads.Learnt,
       read-pairs-below t,
       read-pairs.Post,
       byte-is-reads.Asked,
@@ -109,23 +110,19 @@ pub +read-container+read-pairs+read-value-spec : {M : Type 1} → statement M
     (λ c. search needs)
     (λ c κs. search needs)
     (λ c. containers.head-not _ _ _ _ (c .before .before .before .before .before .before .pre .1 .1 .3) (c .before .before .before .before .before .before .args .table .now) (c .before .before .before .before .before .before .args .table .now) _ _ _ (c .before .before .before .head .ensures) (c .before .enum-told .given .1) (c .refused .ensures))
-    (λ c. let f = c .before .before .before .before .before .before .before .pre .1 .0 in let b = c .before .before .before .before .before .before .before .pre .1 .1 in omega arith)
-    (λ c κs. let f = c .before .before .before .before .before .before .before .pre .1 .0 in let b = c .before .before .before .before .before .before .before .pre .1 .1 in omega arith)
-    (λ c. let f = c .before .before .before .before .before .before .before .before .before .before .pre .1 .0 in let b = c .before .before .before .before .before .before .before .before .before .before .pre .1 .1 in omega arith)
-    (λ c. let f = c .before .before .before .before .before .before .before .before .before .before .pre .1 .0 in let b = c .before .before .before .before .before .before .before .before .before .before .pre .1 .1 in omega arith)
-    (λ c. let f = c .before .before .before .before .before .before .before .before .before .before .before .pre .1 .0 in let b = c .before .before .before .before .before .before .before .before .before .before .before .pre .1 .1 in omega arith)
-    (λ c κs. let f = c .before .before .before .before .before .before .before .before .before .before .before .before .pre .1 .0 in let b = c .before .before .before .before .before .before .before .before .before .before .before .before .pre .1 .1 in let h = (found-of (c .before .before .before .before .before .before .before .before .before .head .ensures) (c .before .before .before .before .before .before .before .scan .given .1)) in (omega (arith, h .on, h .inside), record { inside = h .inside; table = omega arith; node = omega arith; ordinal = omega arith }))
+    (λ c κs. let f = c .before .before .before .before .before .before .before .pre .1 .0 in let b = c .before .before .before .before .before .before .before .pre .1 .1 in (omega arith, f .ordinal, b .2))
+    (λ c κs. let f = c .before .before .before .before .before .before .before .before .before .before .before .pre .1 .0 in let b = c .before .before .before .before .before .before .before .before .before .before .before .pre .1 .1 in let h = (found-of (c .before .before .before .before .before .before .before .before .head .ensures) (c .before .before .before .before .before .before .scan .given .1)) in let e = (c .before .before .before .enter .ensures) .cursor in (omega (arith, ap (λ (i : Cursor). i .at) e, h .on, h .inside), containers.first-fit _ _ _ _ _ _ _ e (h .inside) f (b .1) (c .before .before .before .enter .kept .0)))
     (λ c. search needs)
     (λ c. search needs)
     (λ c. search needs)
-    (λ c. leaves.meets-bad _ _ _ _ _ _ _ _ _ (c .enum-told2 .given .1) (containers.pairs-refused _ _ _ _ (c .before .before .before .before .before .before .before .before .before .before .before .before .before .before .before .before .before .pre .1 .1 .3) _ (found-of (c .before .before .before .before .before .before .before .before .before .before .before .before .before .before .head .ensures) (c .before .before .before .before .before .before .before .before .before .before .before .before .scan .given .1)) _ _ (subst (MeetsPairs _ _ _ _ _ _) (c .enum-told2 .given .1) (c .before .before .before .before .read-pairs .ensures))))
+    (λ c. leaves.meets-bad _ _ _ _ _ _ _ _ _ (c .enum-told2 .given .1) (containers.pairs-refused _ _ _ _ (c .before .before .before .before .before .before .before .before .before .before .before .before .before .before .before .before .pre .1 .1 .3) _ (found-of (c .before .before .before .before .before .before .before .before .before .before .before .before .before .head .ensures) (c .before .before .before .before .before .before .before .before .before .before .before .scan .given .1)) _ ((c .before .before .before .before .before .before .before .before .enter .ensures) .cursor) _ _ (subst (MeetsPairs _ _ _ _ _ _) (c .enum-told2 .given .1) (c .before .before .before .before .read-pairs .ensures))))
     (λ c κs. search needs)
     (λ c. search needs)
-    (λ c. containers.brace-missing _ _ _ _ (c .before .before .before .before .before .before .before .before .before .before .before .before .before .before .before .before .before .before .before .before .pre .1 .1 .3) _ (found-of (c .before .before .before .before .before .before .before .before .before .before .before .before .before .before .before .before .before .head .ensures) (c .before .before .before .before .before .before .before .before .before .before .before .before .before .before .before .scan .given .1)) (c .before .before .before .before .before .before .before .before .before .before .before .before .before .before .before .before .before .before .before .before .args .table .now) _ _ (c .before .before .before .before .before .before .before .before .before .before .before .before .before .before .before .before .before .before .before .before .args .table .now) (c .before .before .before .before .before .before .before .before .before .before .before .before .before .before .before .before .before .before .before .before .pre .1 .0) (c .before .before .before .before .before .before .before .before .before .before .before .before .before .before .before .before .before .before .before .before .pre .1 .1 .1) _ (subst (MeetsPairs _ _ _ _ _ _) (c .before .before .before .step .given .1) (c .before .before .before .before .before .before .before .read-pairs .ensures)) (sym (c .before .byte-is .ensures) ∙ not-true _ (c .if1 .taken)))
-    (λ c κs. let f = c .before .before .before .before .before .before .before .before .before .before .before .before .before .before .before .before .before .before .before .before .before .pre .1 .0 in let b = c .before .before .before .before .before .before .before .before .before .before .before .before .before .before .before .before .before .before .before .before .before .pre .1 .1 in omega arith)
-    (λ c. let g = c .before .before .before .before .before .before .before .before .before .before .before .before .before .before .before .before .before .before .before .before .before .before .before .before .good .0 in omega (arith, byte-there _ _ (byte "}") (lit< tt) (sym (c .before .before .before .before .before .byte-is .ensures) ∙ not-false _ (c .before .before .before .before .if1 .left))))
+    (λ c. containers.brace-missing _ _ _ _ (c .before .before .before .before .before .before .before .before .before .before .before .before .before .before .before .before .before .before .before .pre .1 .1 .3) _ (found-of (c .before .before .before .before .before .before .before .before .before .before .before .before .before .before .before .before .head .ensures) (c .before .before .before .before .before .before .before .before .before .before .before .before .before .before .scan .given .1)) (c .before .before .before .before .before .before .before .before .before .before .before .before .before .before .before .before .before .before .before .args .table .now) _ _ (c .before .before .before .before .before .before .before .before .before .before .before .before .before .before .before .before .before .before .before .args .table .now) (c .before .before .before .before .before .before .before .before .before .before .before .before .before .before .before .before .before .before .before .pre .1 .0) (c .before .before .before .before .before .before .before .before .before .before .before .before .before .before .before .before .before .before .before .pre .1 .1 .1) _ _ (c .before .before .before .before .before .before .before .before .before .before .before .enter .ensures) (subst (MeetsPairs _ _ _ _ _ _) (c .before .before .before .step .given .1) (c .before .before .before .before .before .before .before .read-pairs .ensures)) (sym (c .before .byte-is .ensures) ∙ not-true _ (c .if1 .taken)))
+    (λ c κs. let f = c .before .before .before .before .before .before .before .before .before .before .before .before .before .before .before .before .before .before .before .before .pre .1 .0 in let b = c .before .before .before .before .before .before .before .before .before .before .before .before .before .before .before .before .before .before .before .before .pre .1 .1 in omega arith)
+    (λ c. let g = c .before .before .before .before .before .before .before .before .before .before .before .before .before .before .before .before .before .before .before .before .before .before .before .good .0 in omega (arith, byte-there _ _ (byte "}") (lit< tt) (sym (c .before .before .before .before .before .byte-is .ensures) ∙ not-false _ (c .before .before .before .before .if1 .left))))
     (λ c. search needs)
-    (λ c. containers.container-good _ _ _ _ (c .before .before .before .before .before .before .before .before .before .before .before .before .before .before .before .before .before .before .before .before .before .before .before .before .pre .1 .1 .3) _ (found-of (c .before .before .before .before .before .before .before .before .before .before .before .before .before .before .before .before .before .before .before .before .before .head .ensures) (c .before .before .before .before .before .before .before .before .before .before .before .before .before .before .before .before .before .before .before .scan .given .1)) (c .before .before .before .before .before .before .before .before .before .before .before .before .before .before .before .before .before .before .before .before .before .before .before .before .args .table .now) _ _ _ (c .before .before .before .before .before .before .before .before .before .before .before .before .before .before .before .before .before .before .before .before .before .before .before .before .pre .1 .0) (c .before .before .before .before .before .before .before .before .before .before .before .before .before .before .before .before .before .before .before .before .before .before .before .before .pre .1 .1 .1) _ (subst (MeetsPairs _ _ _ _ _ _) (c .before .before .before .before .before .before .before .step .given .1) (c .before .before .before .before .before .before .before .before .before .before .before .read-pairs .ensures)) (sym (c .before .before .before .before .before .byte-is .ensures) ∙ not-false _ (c .before .before .before .before .if1 .left)) (c .before .before .before .before .before .before .before .before .before .before .before .before .before .before .before .before .put-node .ensures) (c .before .before .before .before .before .before .before .before .before .before .before .read-pairs .kept .1 .0) (c .before .before .put-end .ensures)))
+    (λ c. containers.container-good _ _ _ _ (c .before .before .before .before .before .before .before .before .before .before .before .before .before .before .before .before .before .before .before .before .before .before .before .pre .1 .1 .3) _ (found-of (c .before .before .before .before .before .before .before .before .before .before .before .before .before .before .before .before .before .before .before .before .head .ensures) (c .before .before .before .before .before .before .before .before .before .before .before .before .before .before .before .before .before .before .scan .given .1)) (c .before .before .before .before .before .before .before .before .before .before .before .before .before .before .before .before .before .before .before .before .before .before .before .args .table .now) _ _ _ (c .before .before .before .before .before .before .before .before .before .before .before .before .before .before .before .before .before .before .before .before .before .before .before .pre .1 .0) (c .before .before .before .before .before .before .before .before .before .before .before .before .before .before .before .before .before .before .before .before .before .before .before .pre .1 .1 .1) _ _ (c .before .before .before .before .before .before .before .before .before .before .before .before .before .before .before .enter .ensures) (subst (MeetsPairs _ _ _ _ _ _) (c .before .before .before .before .before .before .before .step .given .1) (c .before .before .before .before .before .before .before .before .before .before .before .read-pairs .ensures)) (sym (c .before .before .before .before .before .byte-is .ensures) ∙ not-false _ (c .before .before .before .before .if1 .left)) (c .before .before .before .before .before .before .before .before .before .before .before .read-pairs .kept .1 .0) (c .before .before .put-end .ensures)))
     (λ t. read-pairs-lts.spec (
       read-key-reads.Asked,
       read-key-reads.Learnt,
