@@ -1,9 +1,43 @@
-# make: prove every crate.  make test: the gate, what CI runs; its last line is 'N passed, 0 failed'.
-.PHONY: prove test
+# make: prove every crate, build the archive for C and Rust.  make run: the main job on the example year.
+# make test: the gate, what CI runs; its last line is 'N passed, 0 failed'.
+# make fuzz SECONDS=600 SEED=7: the library against the independent reader for so long.  make bench: nanoseconds a byte beside a Rust reader.
+.PHONY: all prove archive run test compare fuzz bench clean
+
+BUILD := $(CURDIR)/build
+CARGO := CARGO_TARGET_DIR=$(BUILD)/cargo TONSCHNECKE_LIB_DIR=$(BUILD) cargo
+SECONDS ?= 60
+SEED ?= 1
+
+all: prove archive
 
 prove:
 	rt check
 
-test:
+# what C and Rust link
+archive:
+	rt staticlib tonschnecke
+	mkdir -p $(BUILD)
+	cp target/staticlib/libtonschnecke.a $(BUILD)/libtonschnecke.a
+
+run:
+	rt check nodes
+	target/bin/nodes < examples/year.plan
+
+# the proved library beside a reader written from the specification alone
+compare: archive
+	$(CARGO) test --quiet --release --manifest-path tests/Cargo.toml
+	$(CARGO) run --quiet --release --manifest-path tests/Cargo.toml --bin differential
+
+fuzz: archive
+	$(CARGO) run --quiet --release --manifest-path tests/Cargo.toml --bin differential -- --seconds $(SECONDS) --seed $(SEED)
+
+bench: archive
+	$(CARGO) run --quiet --release --manifest-path bench/Cargo.toml
+
+# rt ci comes last: it starts from nothing, and its last line is the verdict
+test: compare
 	rt fmt --check
 	rt ci
+
+clean:
+	rm -rf target $(BUILD)

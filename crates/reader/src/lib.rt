@@ -1,6 +1,7 @@
 // Reads a plan into a node table, or refuses it.
 use crate::cursor::Cursor;
 use crate::cursor::Step;
+use crate::table::WIDTH;
 ghost use Prim.Native.Nat.{_*_, _≤_};
 ghost use lib.ListN.{length};
 ghost use Rattle.format.specs.Table.{width};
@@ -16,6 +17,11 @@ mod seen;
 mod table;
 mod value;
 
+// "plan longer than 65,536 bytes" is refused, and so is "depth above 64".
+const SOURCE_LIMIT: usize = 65536;
+
+const DEPTH_LIMIT: usize = 64;
+
 // What reading answers: the nodes written and the ordinals taken, or a refusal's number and position.
 pub enum Reading {
     Accepted { nodes: usize, ordinals: usize },
@@ -27,14 +33,14 @@ fn read_whole(source: &[u8], table: &mut [u64], capacity: usize) -> Step
     requires { ⌜ capacity * width ≤ length (now table) ⌝ }
     ensures { λ r. ⌜ Whole (now (source .entry)) (now (table .entry)) (now (table .exit)) capacity r ⌝ }
 {
-    if 65536 < source.len() {
+    if SOURCE_LIMIT < source.len() {
         return Step::Refused(1, 0);
     }
     let start = Cursor {
         at: 0,
         node: 0,
         ordinal: 0,
-        levels: 64,
+        levels: DEPTH_LIMIT,
     };
     let step = value::read_value(source, table, capacity, start);
     let Step::Done(end) = step else {
@@ -51,7 +57,7 @@ fn read_whole(source: &[u8], table: &mut [u64], capacity: usize) -> Step
 pub fn read(source: &[u8], table: &mut [u64]) -> Reading
     ensures { λ r. ⌜ Reads (now (source .entry)) (now (table .entry)) (now (table .exit)) r ⌝ }
 {
-    let capacity = table.len() / 6;
+    let capacity = table.len() / WIDTH;
     let step = read_whole(source, table, capacity);
     match step {
         Step::Refused(code, at) => {

@@ -1,4 +1,5 @@
 // The node that carries an ordinal, found by a scan over the nodes so far.
+use crate::table::WIDTH;
 ghost use Prim.Native.Nat.{_*_, _≤_};
 ghost use lib.ListN.{length};
 ghost use Rattle.format.specs.Table.{width};
@@ -11,7 +12,7 @@ pub(crate) fn node_of(table: &[u64], nodes: usize, ordinal: u64) -> usize
 {
     let mut i = 0;
     while i < nodes {
-        if table[i * 6 + 1] == ordinal {
+        if table[i * WIDTH + 1] == ordinal {
             return i;
         }
         i += 1;

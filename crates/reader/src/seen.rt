@@ -1,4 +1,6 @@
 // Whether a key equals an earlier one of its container: by a walk over the pairs, or at once for an integer above all before.
+use crate::table::WIDTH;
+use format::kind::Kind;
 use scanner::bytes::same_bytes;
 ghost use mathlib.Core.Path.{_≡_};
 ghost use mathlib.Core.List.{List};
@@ -8,6 +10,12 @@ ghost use Rattle.format.specs.Syntax.{Key};
 ghost use Rattle.format.specs.Keys.{sameKey, hasKey};
 ghost use Rattle.format.specs.Table.{width};
 ghost use Rattle.reader.specs.KeysSeen.{rank, Held, HeldKey, keyWords, Chain, Walk, Under, Raised};
+
+// Word 0 of an integer key.
+const INT_TAG: u64 = Kind::INT as u64;
+
+// From a key's node on: word 5 of the value's node behind it says where the pair ends.
+const PAIR_END: usize = WIDTH + 5;
 
 // A key by words 0, 2 and 3 of its node.
 pub struct KeyWords {
@@ -34,7 +42,7 @@ pub(crate) fn key_at(table: &[u64], node: usize) -> KeyWords
     requires { ⌜ node * width + width ≤ length (now table) ⌝ }
     ensures { λ r. ⌜ r ≡ keyWords (now (table .entry)) node ⌝ }
 {
-    let k = node * 6;
+    let k = node * WIDTH;
     KeyWords {
         tag: table[k],
         content: table[k + 2],
@@ -50,7 +58,7 @@ fn same_key(source: &[u8], a: KeyWords, b: KeyWords) -> bool
     if a.tag != b.tag {
         return false;
     }
-    if a.tag == 105 {
+    if a.tag == INT_TAG {
         return b.content == a.content;
     }
     if b.size != a.size {
@@ -76,7 +84,7 @@ fn walk(source: &[u8], table: &[u64], first: usize, node: usize, key: KeyWords) 
         if same_key(source, key_at(table, i), key) {
             return true;
         }
-        i = table[i * 6 + 11] as usize;
+        i = table[i * WIDTH + PAIR_END] as usize;
     }
     false
 }
@@ -95,7 +103,7 @@ pub(crate) fn key_seen(
     requires { ⌜ HeldKey (now source) key ⌝ }
     ensures { λ r. ⌜ ((k : Key) (ks : List Key) → Held (now (source .entry)) k key → Chain (now (source .entry)) (now (table .entry)) first node ks → Under highest ks → r ≡ hasKey k ks) ⌝ }
 {
-    if key.tag == 105 {
+    if key.tag == INT_TAG {
         match highest {
             Highest::Nothing => return false,
             Highest::At(top) => {
@@ -112,7 +120,7 @@ pub(crate) fn key_seen(
 pub(crate) fn raised(highest: Highest, key: KeyWords) -> Highest
     ensures { λ r. ⌜ Raised highest key r ⌝ }
 {
-    if key.tag != 105 {
+    if key.tag != INT_TAG {
         return highest;
     }
     let new = rank(key.content);

@@ -9,12 +9,15 @@ ghost use lib.Seq.{sets};
 ghost use Rattle.format.specs.Table.{width, words};
 ghost use Rattle.reader.specs.Nodes.{nodeOf, Placed, Entered};
 
+// "six to a node"
+pub(crate) const WIDTH: usize = 6;
+
 // Writes the words of a node.
 fn put_node(table: &mut [u64], node: usize, tag: u8, ordinal: u64, text: Text, end: u64)
     requires { ⌜ node * width + width ≤ length (now table) ⌝ }
     ensures { λ _. ⌜ now (table .exit) ≡ sets (now (table .entry)) (node * width) (words (nodeOf tag ordinal end text)) ⌝ }
 {
-    let k = node * 6;
+    let k = node * WIDTH;
     table[k] = tag as u64;
     table[k + 1] = ordinal;
     table[k + 2] = text.content;
@@ -28,7 +31,7 @@ pub(crate) fn put_end(table: &mut [u64], node: usize, end: u64)
     requires { ⌜ node * width + width ≤ length (now table) ⌝ }
     ensures { λ _. ⌜ now (table .exit) ≡ sets (now (table .entry)) (node * width + 5) (end ∷ []) ⌝ }
 {
-    table[node * 6 + 5] = end;
+    table[node * WIDTH + 5] = end;
 }
 
 // Writes the node of a key, or of a value that holds none, with the next ordinal if it takes one; the cursor behind it.

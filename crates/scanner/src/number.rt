@@ -8,6 +8,14 @@ ghost use Prim.Native.Nat.{_-_, _<_, _^_};
 ghost use Rattle.format.specs.Read.{intText};
 ghost use Rattle.scanner.specs.Scans.{Scans, digitsText, signedText, countText, namedText, valueTold, integerTold, numberTold, countTold};
 
+// "*Number* below means digits without sign, of value at most 65,536."
+pub(crate) const NUMBER_LIMIT: u64 = 65536;
+
+// The greatest magnitudes of an integer: with no sign or a `+`, and with a `-`.
+const INT_MAX: u64 = 9223372036854775807;
+
+const INT_MIN: u64 = 9223372036854775808;
+
 // A run of digits of at most `top`: it "is taken whole, then 5 is tested".
 pub(crate) fn digits(source: &[u8], at: usize, top: u64) -> Scan
     requires { ⌜ top < 2 ^ 64 - 1 ⌝ }
@@ -60,19 +68,19 @@ pub fn int(source: &[u8], at: usize) -> Scan
     }
     let from = at + 1;
     if byte_is(source, from, b'+') {
-        return magnitude(source, from + 1, false, 9223372036854775807);
+        return magnitude(source, from + 1, false, INT_MAX);
     }
     if byte_is(source, from, b'-') {
-        return magnitude(source, from + 1, true, 9223372036854775808);
+        return magnitude(source, from + 1, true, INT_MIN);
     }
-    magnitude(source, from, false, 9223372036854775807)
+    magnitude(source, from, false, INT_MAX)
 }
 
 // A count of pairs and the opening brace, from behind the colon on.
 pub fn count(source: &[u8], at: usize) -> Scan
     ensures { λ r. ⌜ Scans countText countTold (now (source .entry)) at r ⌝ }
 {
-    let scan = digits(source, at, 65536);
+    let scan = digits(source, at, NUMBER_LIMIT);
     let Scan::Is(run) = scan else {
         return scan;
     };
@@ -95,7 +103,7 @@ pub fn named(source: &[u8], at: usize) -> Scan
     if !byte_is(source, at, b':') {
         return Scan::Not(2);
     }
-    let scan = digits(source, at + 1, 65536);
+    let scan = digits(source, at + 1, NUMBER_LIMIT);
     let Scan::Is(run) = scan else {
         return scan;
     };

@@ -3,6 +3,7 @@ use crate::Scan;
 use crate::Text;
 use crate::bytes::byte_is;
 use crate::bytes::bytes_are;
+use crate::number::NUMBER_LIMIT;
 use crate::number::digits;
 ghost use mathlib.Core.List.{[], _∷_};
 ghost use Rattle.format.specs.Bytes.{byte};
@@ -16,7 +17,7 @@ pub fn quoted(source: &[u8], at: usize, close: u8) -> Scan
     if !byte_is(source, at, b':') {
         return Scan::Not(2);
     }
-    let scan = digits(source, at + 1, 65536);
+    let scan = digits(source, at + 1, NUMBER_LIMIT);
     let Scan::Is(run) = scan else {
         return scan;
     };
