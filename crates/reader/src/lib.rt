@@ -1,7 +1,6 @@
 // Reads a plan into a node table, or refuses it.
 use crate::cursor::Cursor;
 use crate::cursor::Step;
-use crate::table::WIDTH;
 ghost use Prim.Native.Nat.{_*_, _≤_};
 ghost use lib.ListN.{length};
 ghost use Rattle.format.specs.Table.{width};
@@ -16,6 +15,9 @@ mod lookup;
 mod seen;
 mod table;
 mod value;
+
+// The words of a node: "six to a node".
+pub const WIDTH: usize = 6;
 
 // "plan longer than 65,536 bytes" is refused, and so is "depth above 64".
 const SOURCE_LIMIT: usize = 65536;

@@ -1,5 +1,5 @@
 // The node that carries an ordinal, found by a scan over the nodes so far.
-use crate::table::WIDTH;
+use crate::WIDTH;
 ghost use Prim.Native.Nat.{_*_, _≤_};
 ghost use lib.ListN.{length};
 ghost use Rattle.format.specs.Table.{width};

@@ -1,5 +1,5 @@
 // Whether a key equals an earlier one of its container: by a walk over the pairs, or at once for an integer above all before.
-use crate::table::WIDTH;
+use crate::WIDTH;
 use format::kind::Kind;
 use scanner::bytes::same_bytes;
 ghost use mathlib.Core.Path.{_≡_};

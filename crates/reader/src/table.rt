@@ -1,4 +1,5 @@
 // The node table: six words to a node.
+use crate::WIDTH;
 use crate::cursor::Cursor;
 use scanner::Text;
 ghost use mathlib.Core.Path.{_≡_};
@@ -8,9 +9,6 @@ ghost use lib.ListN.{length, replicate};
 ghost use lib.Seq.{sets};
 ghost use Rattle.format.specs.Table.{width, words};
 ghost use Rattle.reader.specs.Nodes.{nodeOf, Placed, Entered};
-
-// "six to a node"
-pub(crate) const WIDTH: usize = 6;
 
 // Writes the words of a node.
 fn put_node(table: &mut [u64], node: usize, tag: u8, ordinal: u64, text: Text, end: u64)

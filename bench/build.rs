@@ -1,0 +1,19 @@
+//! Links the archive that is measured: `libtonschnecke.a` in `TONSCHNECKE_LIB_DIR`, else in `../target/staticlib`.
+
+use std::env;
+use std::path::PathBuf;
+
+fn main() {
+    let manifest = PathBuf::from(env::var_os("CARGO_MANIFEST_DIR").expect("set by cargo"));
+    let folder = env::var_os("TONSCHNECKE_LIB_DIR").map_or_else(
+        || manifest.join("../target/staticlib"),
+        |given| manifest.join(given),
+    );
+    println!("cargo:rerun-if-env-changed=TONSCHNECKE_LIB_DIR");
+    println!(
+        "cargo:rerun-if-changed={}",
+        folder.join("libtonschnecke.a").display()
+    );
+    println!("cargo:rustc-link-search=native={}", folder.display());
+    println!("cargo:rustc-link-lib=static=tonschnecke");
+}

@@ -1,0 +1,211 @@
+//! The peer: a plain reader of the same contract, in one pass, as one would write it by hand. It
+//! finds the node of an ordinal in a list and equal keys by hash sets, and proves nothing.
+
+mod keys;
+mod text;
+
+use crate::library::Reading;
+use keys::Keys;
+
+const SOURCE_LIMIT: usize = 65_536;
+const DEPTH_LIMIT: usize = 64;
+/// Words of a node.
+pub const WIDTH: usize = 6;
+
+/// A refusal's number and position.
+pub struct Refusal {
+    code: u64,
+    at: usize,
+}
+
+type Step<T> = Result<T, Refusal>;
+
+/// Words 2, 3 and 4 of a node.
+#[derive(Clone, Copy, Default)]
+pub struct Content {
+    content: u64,
+    size: u64,
+    link: u64,
+}
+
+pub struct Reader<'a> {
+    source: &'a [u8],
+    table: &'a mut [u64],
+    at: usize,
+    nodes: usize,
+    /// The node that carries each ordinal; ordinals count from 1.
+    carriers: Vec<usize>,
+}
+
+pub fn read(source: &[u8], table: &mut [u64]) -> Reading {
+    let mut reader = Reader {
+        source,
+        table,
+        at: 0,
+        nodes: 0,
+        carriers: Vec::new(),
+    };
+    match reader.plan() {
+        Ok(()) => Reading {
+            code: 0,
+            at: 0,
+            nodes: reader.nodes as u64,
+            ordinals: reader.carriers.len() as u64,
+        },
+        Err(Refusal { code, at }) => {
+            reader.table.fill(0);
+            Reading {
+                code,
+                at: at as u64,
+                nodes: 0,
+                ordinals: 0,
+            }
+        }
+    }
+}
+
+fn refused<T>(code: u64, at: usize) -> Step<T> {
+    Err(Refusal { code, at })
+}
+
+impl<'a> Reader<'a> {
+    fn plan(&mut self) -> Step<()> {
+        if self.source.len() > SOURCE_LIMIT {
+            return refused(1, 0);
+        }
+        self.value(1)?;
+        if self.at < self.source.len() {
+            return refused(10, self.at);
+        }
+        Ok(())
+    }
+
+    fn value(&mut self, depth: usize) -> Step<()> {
+        let tag = self.tag()?;
+        let start = self.at;
+        if !matches!(
+            tag,
+            b'N' | b'b' | b'i' | b'd' | b's' | b'a' | b'O' | b'r' | b'R'
+        ) {
+            return refused(3, start);
+        }
+        if depth > DEPTH_LIMIT {
+            return refused(8, start);
+        }
+        self.room(start)?;
+        self.at += 1;
+        match tag {
+            b'a' | b'O' => self.container(tag, start, depth),
+            b'r' | b'R' => self.reference(tag, start),
+            _ => {
+                let content = self.scalar(tag, start)?;
+                self.carriers.push(self.nodes);
+                self.put(tag, self.carriers.len(), content);
+                Ok(())
+            }
+        }
+    }
+
+    fn scalar(&mut self, tag: u8, start: usize) -> Step<Content> {
+        match tag {
+            b'N' => self.null(start),
+            b'b' => self.boolean(start),
+            b'i' => self.integer(start),
+            b'd' => self.float(start),
+            _ => self.quoted(start, b"\";"),
+        }
+    }
+
+    fn reference(&mut self, tag: u8, start: usize) -> Step<()> {
+        self.expect(start, b":")?;
+        let named = self.number(start)?;
+        self.expect(start, b";")?;
+        let Some(&target) = named
+            .checked_sub(1)
+            .and_then(|index| self.carriers.get(index))
+        else {
+            return refused(6, start);
+        };
+        let ordinal = if tag == b'r' {
+            self.carriers.push(self.nodes);
+            self.carriers.len()
+        } else {
+            0
+        };
+        let content = Content {
+            content: named as u64,
+            size: 0,
+            link: target as u64,
+        };
+        self.put(tag, ordinal, content);
+        Ok(())
+    }
+
+    fn container(&mut self, tag: u8, start: usize, depth: usize) -> Step<()> {
+        let mut content = Content::default();
+        if tag == b'O' {
+            content = self.quoted(start, b"\":")?;
+        } else {
+            self.expect(start, b":")?;
+        }
+        let pairs = self.number(start)?;
+        self.expect(start, b":{")?;
+        content.link = pairs as u64;
+        let node = self.nodes;
+        self.carriers.push(node);
+        self.put(tag, self.carriers.len(), content);
+        // A count may promise more pairs than there are bytes.
+        let mut keys = Keys::new(self.nodes, pairs.min(self.source.len() - self.at));
+        for _ in 0..pairs {
+            self.key(tag, &mut keys)?;
+            self.value(depth + 1)?;
+        }
+        self.expect(start, b"}")?;
+        self.table[node * WIDTH + 5] = self.nodes as u64;
+        Ok(())
+    }
+
+    fn key(&mut self, container: u8, keys: &mut Keys<'a>) -> Step<()> {
+        let tag = self.tag()?;
+        let start = self.at;
+        if tag != b's' && (tag != b'i' || container == b'O') {
+            return refused(4, start);
+        }
+        self.room(start)?;
+        self.at += 1;
+        let content = self.scalar(tag, start)?;
+        self.put(tag, 0, content);
+        if keys.repeats(self.source, self.table, self.nodes - 1) {
+            return refused(9, start);
+        }
+        Ok(())
+    }
+
+    /// The tag that is due here.
+    fn tag(&self) -> Step<u8> {
+        match self.source.get(self.at) {
+            Some(&tag) => Ok(tag),
+            None => refused(2, self.at),
+        }
+    }
+
+    fn room(&self, start: usize) -> Step<()> {
+        if self.nodes == self.table.len() / WIDTH {
+            return refused(7, start);
+        }
+        Ok(())
+    }
+
+    fn put(&mut self, tag: u8, ordinal: usize, content: Content) {
+        let first = self.nodes * WIDTH;
+        self.nodes += 1;
+        self.table[first..first + WIDTH].copy_from_slice(&[
+            u64::from(tag),
+            ordinal as u64,
+            content.content,
+            content.size,
+            content.link,
+            self.nodes as u64,
+        ]);
+    }
+}

@@ -1,0 +1,52 @@
+-- `cases::compare::lent` meets its contract. Assumes nothing.
+use Prim.Native.Nat.{_-_}
+use mathlib.Core.Path.{_≡_}
+use lib.ListN.{length}
+use borrow.Author.Needs.{needs}
+use Rattle.cases.proofs.compare.lent.Statement.{statement}
+use Rattle.cases.proofs.compare.lent.Tie as tie
+
+abbrev Inv-loop : tie.InvT-loop
+Inv-loop table₀ i₀ table i = 800 ≡ length table
+
+abbrev μ-loop : tie.MeasureT-loop
+μ-loop table₀ i₀ table i = 800 - i
+
+loop-holds : tie.Need-loop-holds Inv-loop μ-loop
+loop-holds c = search needs
+
+held-requires : tie.Need-held-requires Inv-loop μ-loop
+held-requires c κs = search needs
+
+mul-table : tie.Need-mul-table Inv-loop μ-loop
+mul-table c = search needs
+
+array-write-table : tie.Need-array-write-table Inv-loop μ-loop
+array-write-table c = search needs
+
+add-i : tie.Need-add-i Inv-loop μ-loop
+add-i c = search needs
+
+loop-less : tie.Need-loop-less Inv-loop μ-loop
+loop-less c = search needs
+
+loop-again : tie.Need-loop-again Inv-loop μ-loop
+loop-again c = search needs
+
+returns : tie.Need-returns Inv-loop μ-loop
+returns c = search needs
+
+pub lent-spec : {M : Type 1} → statement M
+lent-spec =
+    tie.close
+    (tie.spec
+    Inv-loop
+    μ-loop
+    loop-holds
+    held-requires
+    mul-table
+    array-write-table
+    add-i
+    loop-less
+    loop-again
+    returns)

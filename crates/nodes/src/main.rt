@@ -1,0 +1,68 @@
+// Reads a plan from standard input and prints a line for each node, or the refusal.
+use libc::STDIN_FILENO;
+use libc::STDOUT_FILENO;
+use reader::Reading;
+use reader::WIDTH;
+ghost use Prim.Native.Nat.{_+_, _*_, _≤_};
+ghost use lib.ListN.{length};
+ghost use Rattle.format.specs.Table.{width};
+
+// What the program lends: as much source as `io::large_buffer` holds, and a table for 1,365 nodes.
+const SOURCE_SIZE: usize = 65536;
+
+const TABLE_WORDS: usize = 8190;
+
+// A line: the words of a node, with commas between them.
+fn print_node(table: &[u64], node: usize)
+    requires { ⌜ node * width + width ≤ length (now table) ⌝ }
+{
+    let first = node * WIDTH;
+    io::print_decimal(STDOUT_FILENO, table[first]);
+    let mut i = 1;
+    while i < WIDTH {
+        io::write_all(STDOUT_FILENO, b",");
+        io::print_decimal(STDOUT_FILENO, table[first + i]);
+        i += 1;
+    }
+    io::write_all(STDOUT_FILENO, b"\n");
+}
+
+fn print_nodes(table: &[u64], nodes: usize)
+    requires { ⌜ nodes * width ≤ length (now table) ⌝ }
+{
+    let mut i = 0;
+    while i < nodes {
+        print_node(table, i);
+        i += 1;
+    }
+}
+
+fn print_refusal(code: u8, at: usize) {
+    io::write_all(STDOUT_FILENO, b"refused ");
+    io::print_decimal(STDOUT_FILENO, code as u64);
+    io::write_all(STDOUT_FILENO, b" at ");
+    io::print_decimal(STDOUT_FILENO, at as u64);
+    io::write_all(STDOUT_FILENO, b"\n");
+}
+
+fn print_reading(source: &[u8], table: &mut [u64]) {
+    match reader::read(source, table) {
+        Reading::Accepted { nodes, ordinals: _ } => print_nodes(table, nodes),
+        Reading::Refused { code, at } => print_refusal(code, at),
+    }
+}
+
+fn main() {
+    let mut source = io::large_buffer();
+    let size = io::read_full(STDIN_FILENO, &mut source);
+    if size == SOURCE_SIZE {
+        // The buffer is full, so only another read shows whether the plan goes on.
+        let mut extra = [0u8; 1];
+        if 0 < io::read_full(STDIN_FILENO, &mut extra) {
+            print_refusal(1, 0);
+            return;
+        }
+    }
+    let mut table = [0u64; TABLE_WORDS];
+    print_reading(&source[..size], &mut table);
+}

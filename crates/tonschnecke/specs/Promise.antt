@@ -1,0 +1,17 @@
+-- What the C interface promises: the struct that C gets says the definition's answer.
+use mathlib.Core.Path.{_≡_}
+use mathlib.Core.List.{List}
+use Prim.Native.Nat.{ℕ}
+use Rattle.format.specs.Answer.{Answer, ok, refused}
+use Rattle.format.specs.Reading.{capacityOf, Counts, answer, tableAfter}
+use Rattle.tonschnecke.specs.declared.TonReading.{TonReading}
+
+-- no refusal has number 0, so code 0 says that the plan is accepted
+unfoldable pub readingOf : Answer Counts → TonReading
+readingOf (ok counts) = record { code = 0; at = 0; nodes = counts .nodes; ordinals = counts .ordinals }
+readingOf (refused code at) = record { code = code; at = at; nodes = 0; ordinals = 0 }
+
+-- demands 1 and 2 for reading, as C sees it: the whole struct, and every word of the table
+pub record Reads (source before after : List ℕ) (r : TonReading) : Type 0 where
+  pub answer : r ≡ readingOf (answer (capacityOf before) source)
+  pub table : after ≡ tableAfter source before

@@ -1,0 +1,72 @@
+/* Tonschnecke: reads a PHP-serialized value (a plan) into a table of nodes.
+ *
+ * Link with libtonschnecke.a. What is said here of the result and of the table is proved of the Rattle code, for
+ * every source and every table; crates/tonschnecke/specs/Promise.antt says it exactly. */
+#ifndef TONSCHNECKE_H
+#define TONSCHNECKE_H
+
+#include <stddef.h>
+#include <stdint.h>
+
+#ifdef __cplusplus
+extern "C" {
+#endif
+
+/* The words of a node: a table of n * TON_NODE_WORDS words has room for n nodes. */
+#define TON_NODE_WORDS 6
+
+/* What reading answers.
+ * Accepted: code is 0 and at is 0; nodes are those written to the table, ordinals the numbers that values took.
+ * Refused: code is 1 to 10 and at a position in the source; nodes and ordinals are 0.
+ *
+ *   code  refused because                                                   at
+ *     1   the source is longer than 65,536 bytes                            0
+ *     2   a text is not of its kind's form, or the source ends too soon     the tag (*)
+ *     3   a value's tag is none of N b i d s a O r R                        that byte
+ *     4   a key's tag is not allowed: i or s in an array, s in an object    that byte
+ *     5   an integer exceeds 64 bits, or another number exceeds 65,536      the tag
+ *     6   a reference names a number that no earlier value carries          the tag
+ *     7   the table has no room for the node                                the tag
+ *     8   a value stands deeper than 64                                     the tag
+ *     9   a key equals an earlier key of its container                      the later key's tag
+ *    10   bytes follow the value                                            the first of them
+ *
+ * (*) The tag of the innermost value or key; the source's length if a tag was due there.
+ * 1 is tested first; then the source is read from left to right: at a tag 3 or 4, then 8, then 7, then the text; 6 and 9
+ * behind the text; 10 last. */
+typedef struct {
+    uint64_t code, at, nodes, ordinals;
+} ton_reading;
+
+/* Reads the source into the table.
+ *
+ * The nodes stand in the order of their tags, keys included, six words each:
+ *   0  the tag's byte
+ *   1  the ordinal: values take 1, 2, 3 ... in order of their tags; keys and every R take none and have 0
+ *   2  b: 0 or 1. i: the integer, two's complement. d, s: offset of the text. O: offset of the class name.
+ *      r, R: the ordinal named. Else 0
+ *   3  d, s, O: length of that text, else 0
+ *   4  a, O: count of pairs. r, R: index of the node named. Else 0
+ *   5  index of the first node after this one and all that it holds
+ *
+ * An acceptance leaves the words behind the last node as they were. A refusal leaves every word of the table 0.
+ *
+ * The caller owes: source is readable for source_len bytes and table is writable for table_len words (not bytes, not
+ * nodes); the two do not overlap, and nothing else writes to either during the call. A pointer may be null only if
+ * its length is 0. The call keeps neither pointer, uses no other memory but the stack, and ends for every input.
+ *
+ *   static const uint8_t plan[] = "a:1:{i:0;N;}";
+ *   uint64_t table[100 * TON_NODE_WORDS];
+ *   ton_reading r = ton_read(plan, sizeof plan - 1, table, 100 * TON_NODE_WORDS);
+ *   if (r.code != 0)
+ *       fprintf(stderr, "refused %" PRIu64 " at %" PRIu64 "\n", r.code, r.at);
+ *   else
+ *       for (uint64_t i = 0; i < r.nodes; i++)
+ *           printf("%c ends before node %" PRIu64 "\n", (int)table[i * TON_NODE_WORDS], table[i * TON_NODE_WORDS + 5]); */
+ton_reading ton_read(const uint8_t *source, size_t source_len, uint64_t *table, size_t table_len);
+
+#ifdef __cplusplus
+}
+#endif
+
+#endif
