@@ -23,8 +23,12 @@ run:
 	rt check nodes
 	target/bin/nodes < examples/year.plan
 
-# the proved library beside a reader written from the specification alone
+# the proved library beside a reader written from the specification alone; the program and the C example as a user runs them
 compare: archive
+	rt check nodes
+	tests/nodes.sh $(CURDIR)/target/bin/nodes
+	gcc -std=c99 -Wall -Wextra -Werror -pedantic -Iinclude examples/read.c $(BUILD)/libtonschnecke.a -o $(BUILD)/read
+	$(BUILD)/read | diff examples/read.out -
 	$(CARGO) test --quiet --release --manifest-path tests/Cargo.toml
 	$(CARGO) run --quiet --release --manifest-path tests/Cargo.toml --bin differential
 

@@ -1,0 +1,31 @@
+/* Reads a plan and prints what its table says: the example of include/tonschnecke.h. */
+#include "tonschnecke.h"
+
+#include <inttypes.h>
+#include <stdio.h>
+
+#define NODES 100
+
+static void show(const char *plan, size_t size)
+{
+    uint64_t table[NODES * TON_NODE_WORDS];
+    ton_reading r = ton_read((const uint8_t *)plan, size, table, NODES * TON_NODE_WORDS);
+    if (r.code != 0) {
+        printf("refused %" PRIu64 " at %" PRIu64 "\n", r.code, r.at);
+        return;
+    }
+    printf("%" PRIu64 " nodes, %" PRIu64 " ordinals\n", r.nodes, r.ordinals);
+    for (uint64_t i = 0; i < r.nodes; i++) {
+        const uint64_t *node = table + i * TON_NODE_WORDS;
+        printf("%c, ordinal %" PRIu64 ", ends before node %" PRIu64 "\n", (int)node[0], node[1], node[5]);
+    }
+}
+
+int main(void)
+{
+    static const char plan[] = "a:2:{i:0;d:12.5;i:1;R:2;}";
+    static const char damaged[] = "a:2:{i:0;d:12.5;i:1;R:3;}";
+    show(plan, sizeof plan - 1);
+    show(damaged, sizeof damaged - 1);
+    return 0;
+}
