@@ -36,7 +36,7 @@ fuzz: archive
 	$(CARGO) run --quiet --release --manifest-path tests/Cargo.toml --bin differential -- --seconds $(SECONDS) --seed $(SEED)
 
 bench: archive
-	$(CARGO) run --quiet --release --manifest-path bench/Cargo.toml
+	$(CARGO) run --quiet --profile measure --manifest-path tests/Cargo.toml --bin bench
 
 # rt ci comes last: it starts from nothing, and its last line is the verdict
 test: compare

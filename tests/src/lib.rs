@@ -2,8 +2,10 @@
 //!
 //! `model` reads plan bytes in another style than the library does, `library` calls the archive
 //! under test, `compare` lends both the same table and looks at every word. `cases` holds what the
-//! paper states by hand; `generate` and `enumerate` make the plans nobody thought of.
+//! paper states by hand; `generate` and `enumerate` make the plans nobody thought of. `bench` is for
+//! the benchmark alone.
 
+pub mod bench;
 pub mod campaign;
 pub mod cases;
 pub mod compare;

@@ -70,7 +70,7 @@ scalar-kind Kind.object l s q e = absurd (not-both e)
 scalar-kind Kind.objectReference l s q e = absurd (not-both e)
 scalar-kind Kind.variableReference l s q e = absurd (not-both e)
 
-pub scalar-tag : (b : ℕ) → scalarTag b → tag (kindFor b) ≡ b
+scalar-tag : (b : ℕ) → scalarTag b → tag (kindFor b) ≡ b
 unfolding kindFor
 scalar-tag b o = ⊎-elim (λ e. rw e) (λ o. ⊎-elim (λ e. rw e) (λ o. ⊎-elim (λ e. rw e) (λ o. ⊎-elim (λ e. rw e) (λ o. ⊎-elim (λ e. rw e) (λ z. absurd z) o) o) o) o) o
 

@@ -24,9 +24,6 @@ use Rattle.reader.specs.Texts.{isArrayTag, headText, headTold}
 
 -- ---- its code
 
-pub plus-two : (n : ℕ) → n + 2 ≡ n + 1 + 1
-plus-two n = omega arith
-
 module _ (s : List ℕ) (at : ℕ) where
   pub array-colon : eqb (byteAt s at) (byte ":") ≡ false → Scans (headText true) (headTold at) s at (Scan.Not 2)
   unfolding headText

@@ -167,7 +167,7 @@ module _ {s t : List ℕ} {first n : ℕ} {w : KeyWords} where
 -- ---- integers above all earlier ones
 
 -- a rank that the highest does not reach
-abbrev pub Above : Highest → ℕ → Type 0
+abbrev Above : Highest → ℕ → Type 0
 Above Highest.Nothing r = Unit {0}
 Above (Highest.At top) r = top < r
 

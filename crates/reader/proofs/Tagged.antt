@@ -29,7 +29,7 @@ first-not : (k : Kind) (b : ℕ) → eqb b (tag k) ≡ false → eqb (tag k) b �
 first-not k b e = ne-eqb (tag k) b (λ q. eqb-false b (tag k) e (sym q))
 
 -- a tag of one of them is its kind's, and any other is refused
-pub kind-yes : (ks : List Kind) (code at b : ℕ) → isTagOf ks b ≡ true → kindOf ks code at b ≡ ok (among ks b)
+kind-yes : (ks : List Kind) (code at b : ℕ) → isTagOf ks b ≡ true → kindOf ks code at b ≡ ok (among ks b)
 kind-yes [] code at b e = absurd (true≢false (sym e))
 kind-yes (k ∷ ks) code at b e = go (test (eqb b (tag k))) (λ d. kind-yes ks code at b d)
   where
@@ -37,7 +37,7 @@ kind-yes (k ∷ ks) code at b e = go (test (eqb b (tag k))) (λ d. kind-yes ks c
     go (passed t) r = rw (first-is k b t, kindOf, among)
     go (failed t) r = rw (first-not k b t, kindOf, among) (r (rw t at e))
 
-pub kind-no : (ks : List Kind) (code at b : ℕ) → isTagOf ks b ≡ false → kindOf ks code at b ≡ refused code at
+kind-no : (ks : List Kind) (code at b : ℕ) → isTagOf ks b ≡ false → kindOf ks code at b ≡ refused code at
 kind-no [] code at b e = refl
 kind-no (k ∷ ks) code at b e = go (test (eqb b (tag k))) (λ d. kind-no ks code at b d)
   where
@@ -53,7 +53,7 @@ one-of (k ∷ ks) b e = go (test (eqb b (tag k))) (λ d. one-of ks b d)
     go (passed t) r = inl (eqb-true b (tag k) t)
     go (failed t) r = inr (r (rw t at e))
 
-pub not-one : (ks : List Kind) (b : ℕ) → isTagOf ks b ≡ false → OneOf ks b → ⊥
+not-one : (ks : List Kind) (b : ℕ) → isTagOf ks b ≡ false → OneOf ks b → ⊥
 not-one (k ∷ ks) b e o = go (test (eqb b (tag k))) (λ d q. not-one ks b d q)
   where
     go : Test (eqb b (tag k)) → (isTagOf ks b ≡ false → OneOf ks b → ⊥) → ⊥

@@ -48,9 +48,6 @@ module _ (s : List ℕ) (at : ℕ) where
     unfolding boolText
     opened l = rw (boolText, expect-yes l s at (byte ":") [] (lit< tt) colon)
 
-    plus-two : (m : ℕ) → m + 1 + 1 ≡ m + 2
-    plus-two m = omega arith
-
     plus-three : (m : ℕ) → m + 1 + 1 + 1 ≡ m + 3
     plus-three m = omega arith
 
@@ -63,7 +60,7 @@ module _ (s : List ℕ) (at : ℕ) where
         ∙ f l (drop (at + 1 + 1) s)
         ∙ rw (expect-yes l s (at + 1 + 1) (byte ";") [] (lit< tt) (pair-second s (at + 1) b (byte ";") e)) (ap (λ (k : ℕ). ok (v, drop k s)) (plus-three at))
 
-    pub bool-is : (v : Bool) (b w : ℕ) → b < 256 → ((l : ℕ) (s₂ : List ℕ) → rest l (b ∷ s₂) ≡ (expect l (bytes ";") s₂ >>= λ s₃. ok (v, s₃))) → w ≡ boolTold v 0 .content
+    bool-is : (v : Bool) (b w : ℕ) → b < 256 → ((l : ℕ) (s₂ : List ℕ) → rest l (b ∷ s₂) ≡ (expect l (bytes ";") s₂ >>= λ s₃. ok (v, s₃))) → w ≡ boolTold v 0 .content
         → (eqb (byteAt s (at + 1)) b && eqb (byteAt s (at + 1 + 1)) (byte ";")) ≡ true → Scans boolText boolTold s at (Scan.Is (tell w 0 0 (at + 3)))
     bool-is v b w h f q e =
         let k : at + 1 + 1 < length s = pair-there s (at + 1) b (byte ";") e (lit< tt) in

@@ -67,7 +67,7 @@ abbrev pub kept : {A : Type 0} → A → List ℕ → Answer (A × List ℕ)
 kept a s = ok (a, s)
 
 -- what is made of a part is made after it
-pub after-part : {A B : Type 0} (a : Answer (A × List ℕ)) (e : List ℕ → Answer (List ℕ)) (f : A → B)
+after-part : {A B : Type 0} (a : Answer (A × List ℕ)) (e : List ℕ → Answer (List ℕ)) (f : A → B)
     → (a >>= λ q. e (q .1) >>= λ s. kept (f (q .0)) s) ≡ ((a >>= λ q. e (q .1) >>= λ s. kept (q .0) s) >>= λ q. kept (f (q .0)) (q .1))
 after-part (refused c p) e f = refl
 after-part {A} {B} (ok q) e f = go (e (q .1))
@@ -86,7 +86,7 @@ module _ (s : List ℕ) (at cap : ℕ) (r : Run) (h : RunAt s at cap r) where
       ∙ drop-drop (length (digitsOf (drop at s))) at s
       ∙ ap (λ (k : ℕ). drop k s) (sym (h .next))
 
-  pub run-short : length (digitsOf (drop at s)) ≤ length s - at
+  run-short : length (digitsOf (drop at s)) ≤ length s - at
   run-short = omega (arith, length-drop at s, ap length (digits-split (drop at s)), length-append (digitsOf (drop at s)) (afterDigits (drop at s)))
 
   pub run-inside : at ≤ length s → r .next ≤ length s
@@ -161,7 +161,7 @@ module _ (s : List ℕ) (at : ℕ) where
       go (below k) = rw (drop-cons s at 0 k, signOf, byte-other s at (byte "+") k p, byte-other s at (byte "-") k m)
       go (above k) = rw (drop-of-length-le s k)
 
-abbrev pub isMinus : Sign → Bool
+abbrev isMinus : Sign → Bool
 isMinus unsigned = false
 isMinus plus = false
 isMinus minus = true
@@ -198,7 +198,7 @@ module _ (s : List ℕ) (at : ℕ) where
 
 -- ---- counts and ordinals named
 
-abbrev pub spelledSo : ℕ × ℕ → Spelling × ℕ
+abbrev spelledSo : ℕ × ℕ → Spelling × ℕ
 spelledSo n = (record { zeros = n .0 }, n .1)
 
 pub number-is : (l : ℕ) (s : List ℕ) (n : ℕ × ℕ) (s′ : List ℕ) → digits l numberLimit s ≡ ok (n, s′) → number l s ≡ ok (spelledSo n, s′)

@@ -3,14 +3,11 @@
 //! Before a plan is timed, both read it into tables that hold the same words, and must give the
 //! same answer and leave the same table. The tables that are timed are not cleared between reads.
 
-mod library;
-mod peer;
-mod plans;
-
-use library::Reading;
-use plans::Plan;
 use std::hint::black_box;
 use std::time::{Duration, Instant};
+use tonschnecke_tests::bench::peer;
+use tonschnecke_tests::bench::plans::{self, Plan};
+use tonschnecke_tests::library::{self, Reading};
 
 /// Odd, so that the median is one of them.
 const ROUNDS: usize = 15;

@@ -11,7 +11,7 @@ pub fn all() -> Vec<Plan> {
     vec![
         Plan {
             name: "year, two days in five by R",
-            source: include_bytes!("../../examples/year.plan").to_vec(),
+            source: include_bytes!("../../../examples/year.plan").to_vec(),
         },
         filled("list, integer keys from 0", "a", |i, _| {
             format!("i:{i};i:0;")
