@@ -1,15 +1,15 @@
-/* Reads a plan and prints what its table says: the example of include/tonschnecke.h. */
+/* Reads sources with ton_read and prints what it answers and what the table says. */
 #include "tonschnecke.h"
 
 #include <inttypes.h>
 #include <stdio.h>
 
-#define NODES 100
+#define CAPACITY 100
 
-static void show(const char *plan, size_t size)
+static void show(const char *source, size_t size)
 {
-    uint64_t table[NODES * TON_NODE_WORDS];
-    ton_reading r = ton_read((const uint8_t *)plan, size, table, NODES * TON_NODE_WORDS);
+    uint64_t table[CAPACITY * TON_NODE_WORDS];
+    ton_reading r = ton_read((const uint8_t *)source, size, table, CAPACITY * TON_NODE_WORDS);
     if (r.code != 0) {
         printf("refused %" PRIu64 " at %" PRIu64 "\n", r.code, r.at);
         return;
@@ -23,9 +23,12 @@ static void show(const char *plan, size_t size)
 
 int main(void)
 {
-    static const char plan[] = "a:2:{i:0;d:12.5;i:1;R:2;}";
+    static const char accepted[] = "a:2:{i:0;d:12.5;i:1;R:2;}";
     static const char damaged[] = "a:2:{i:0;d:12.5;i:1;R:3;}";
-    show(plan, sizeof plan - 1);
+    show(accepted, sizeof accepted - 1);
     show(damaged, sizeof damaged - 1);
+    /* a pointer may be null where its length is 0 */
+    show(NULL, 0);
+    printf("with no table: refused %" PRIu64 "\n", ton_read((const uint8_t *)"N;", 2, NULL, 0).code);
     return 0;
 }

@@ -24,7 +24,7 @@ extern "C" {
  *     2   a text is not of its kind's form, or the source ends too soon     the tag (*)
  *     3   a value's tag is none of N b i d s a O r R                        that byte
  *     4   a key's tag is not allowed: i or s in an array, s in an object    that byte
- *     5   an integer exceeds 64 bits, or another number exceeds 65,536      the tag
+ *     5   an integer outside -2^63 to 2^63-1, or another number above 65,536  the tag
  *     6   a reference names a number that no earlier value carries          the tag
  *     7   the table has no room for the node                                the tag
  *     8   a value stands deeper than 64                                     the tag
@@ -32,8 +32,8 @@ extern "C" {
  *    10   bytes follow the value                                            the first of them
  *
  * (*) The tag of the innermost value or key; the source's length if a tag was due there.
- * 1 is tested first; then the source is read from left to right: at a tag 3 or 4, then 8, then 7, then the text; 6 and 9
- * behind the text; 10 last. */
+ * 1 is tested first; then the source is read from left to right: at a tag 3 or 4, then 8, then 7, then the text; in it a run of
+ * digits is taken whole and 5 tested before what follows; 6 and 9 behind the text; 10 last. */
 typedef struct {
     uint64_t code, at, nodes, ordinals;
 } ton_reading;
@@ -55,14 +55,7 @@ typedef struct {
  * nodes); the two do not overlap, and nothing else writes to either during the call. A pointer may be null only if
  * its length is 0. The call keeps neither pointer, uses no other memory but the stack, and ends for every input.
  *
- *   static const uint8_t plan[] = "a:1:{i:0;N;}";
- *   uint64_t table[100 * TON_NODE_WORDS];
- *   ton_reading r = ton_read(plan, sizeof plan - 1, table, 100 * TON_NODE_WORDS);
- *   if (r.code != 0)
- *       fprintf(stderr, "refused %" PRIu64 " at %" PRIu64 "\n", r.code, r.at);
- *   else
- *       for (uint64_t i = 0; i < r.nodes; i++)
- *           printf("%c ends before node %" PRIu64 "\n", (int)table[i * TON_NODE_WORDS], table[i * TON_NODE_WORDS + 5]); */
+ * examples/read.c is a whole program that calls it. */
 ton_reading ton_read(const uint8_t *source, size_t source_len, uint64_t *table, size_t table_len);
 
 #ifdef __cplusplus

@@ -25,6 +25,7 @@ text() {
 
 printf '' | expect 'an empty plan' 'refused 2 at 0'
 printf 's:5:"basin";' | expect 'a string' '115,1,5,5,0,1'
+printf 'a:1:{i:0;R:2;}' | expect 'the README'"'"'s plan to try' 'refused 6 at 9'
 printf 'N;\n' | expect 'a newline behind the plan' 'refused 10 at 2'
 text 65525 | expect '65,536 bytes' '115,1,9,65525,0,1'
 text 65526 | expect '65,537 bytes' 'refused 1 at 0'

@@ -1,4 +1,4 @@
-//! The library against the cases written by hand, and reading 8: what it does to the lent words.
+//! The library against the cases written by hand, and what it does to the lent words.
 
 use tonschnecke_tests::cases::{self, Expected};
 use tonschnecke_tests::compare;
@@ -44,7 +44,7 @@ fn every_case_leaves_the_table_as_the_model_says() {
     }
 }
 
-/// Reading 8: "also those past the last whole node".
+/// Point 8 of docs/DECISIONS.md: also those past the last whole node.
 #[test]
 fn a_refusal_makes_every_lent_word_zero() {
     for length in 0..40 {

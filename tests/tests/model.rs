@@ -73,7 +73,7 @@ fn scalars_fill_their_words() {
     assert_table("s:002:\"\";\";", 1, &[[115, 1, 7, 2, 0, 1]]);
 }
 
-/// Reading 7: "An empty text has an offset too".
+/// Point 7 of docs/DECISIONS.md: an empty text has an offset too.
 #[test]
 fn empty_texts_have_offsets() {
     assert_table("s:0:\"\";", 1, &[[115, 1, 5, 0, 0, 1]]);

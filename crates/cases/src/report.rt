@@ -10,25 +10,25 @@ pub struct Tally {
 }
 
 impl Tally {
-    pub fn new() -> Self {
+    pub(crate) fn new() -> Self {
         Tally { right: 0, wrong: 0 }
     }
 
-    pub fn right(self) -> Self {
+    pub(crate) fn right(self) -> Self {
         Tally {
             right: std::num::wrapping_add_u64(self.right, 1),
             wrong: self.wrong,
         }
     }
 
-    pub fn wrong(self) -> Self {
+    pub(crate) fn wrong(self) -> Self {
         Tally {
             right: self.right,
             wrong: std::num::wrapping_add_u64(self.wrong, 1),
         }
     }
 
-    pub fn print(self) {
+    pub(crate) fn print(self) {
         io::print_decimal(STDOUT_FILENO, self.right);
         io::write_all(STDOUT_FILENO, b" cases as the paper says, ");
         io::print_decimal(STDOUT_FILENO, self.wrong);

@@ -56,12 +56,22 @@ module _ (set : Setting) where
 
   record GotPairs (c : Container) (n d : ℕ) (earlier : List Key) (seen : Seen) (before : ℕ) (s : List ℕ) (q : Values × List ℕ) : Type 0 where
     text : s ≡ writePairs (q .0) (q .1)
-    all : count (q .0) ≡ n
     sound : SoundIn c earlier (q .0)
     limited : LimitedIn (q .0)
     backward : BackwardIn seen (q .0)
     shallow : ShallowIn d (q .0)
     small : before + nodesIn (q .0) ≤ set .capacity
+
+  -- so many pairs are read as are asked for
+  pub pairs-count : (inner : Inner) (a : Bool) (n : ℕ) (earlier : List Key) (seen : Seen) (before : ℕ) (s : List ℕ) (q : Values × List ℕ)
+      → readPairs set inner a n earlier seen before s ≡ ok q → count (q .0) ≡ n
+  pairs-count inner a zero earlier seen before s q e = ap (λ (x : Values × List ℕ). count (x .0)) (sym (ok-same e))
+  pairs-count inner a (suc n) earlier seen before s q e =
+      let k = bind-ok (readKey set a earlier before s) _ q e in
+      let v = bind-ok (inner seen (suc before) (k .0 .1)) _ q (k .2) in
+      let ps = bind-ok (readPairs set inner a n (k .0 .0 ∷ earlier) (see seen (v .0 .0)) (suc (before + nodes (v .0 .0))) (v .0 .1)) _ q (v .2) in
+      ap (λ (x : Values × List ℕ). count (x .0)) (sym (ok-same (ps .2)))
+      ∙ ap suc (pairs-count inner a n (k .0 .0 ∷ earlier) (see seen (v .0 .0)) (suc (before + nodes (v .0 .0))) (v .0 .1) (ps .0) (ps .1))
 
   module _ (inner : Inner) (d : ℕ) (inner-ok : (seen : Seen) (before : ℕ) (s : List ℕ) (q : Value × List ℕ) → inner seen before s ≡ ok q → Got d seen before s q) where
     pairs-ok : (h : Container) (n : ℕ) (earlier : List Key) (seen : Seen) (before : ℕ) (s : List ℕ) (q : Values × List ℕ) → before ≤ set .capacity
@@ -69,7 +79,6 @@ module _ (set : Setting) where
     unfolding write
     pairs-ok h zero earlier seen before s q m e = subst (GotPairs h zero d earlier seen before s) (ok-same e) (record {
       text = refl;
-      all = refl;
       sound = tt;
       limited = tt;
       backward = tt;
@@ -86,7 +95,6 @@ module _ (set : Setting) where
         let pc = pairs-ok h n (a .0 .0 ∷ earlier) (see seen v) (suc (before + nodes v)) (b .0 .1) (c .0) (omega (arith, vb .small)) (c .1) in
         subst (GotPairs h (suc n) d earlier seen before s) (ok-same (c .2)) (record {
           text = ka .text ∙ ap (writeKey (a .0 .0)) (vb .text ∙ ap (write v) (pc .text));
-          all = ap suc (pc .all);
           sound = (ka .fits, ka .allow, ka .fresh, vb .sound, pc .sound);
           limited = (vb .limited, pc .limited);
           backward = (vb .backward, pc .backward);
@@ -106,13 +114,14 @@ module _ (set : Setting) where
         let g = bind-ok (expect l (bytes "}") (c .0 .1)) _ q (c .2) in
         let na = number-ok l s (a .0) (a .1) in
         let pc = pairs-ok h n [] (seeBranch seen) (suc before) (b .0) (c .0) m (c .1) in
+        let all : count (c .0 .0) ≡ n = pairs-count inner (isArray h) n [] (seeBranch seen) (suc before) (b .0) (c .0) (c .1) in
         let i : suc d - 1 ≡ d = omega arith in
         subst (Got (suc d) seen before (writeContainer h s)) (ok-same (g .2)) (record {
           text = ap (writeContainer h) (na .text ∙ ap (writeNumber w n)
               (expect-ok l (bytes ":{") (a .0 .1) (b .0) (b .1) ∙ ap (λ (x : List ℕ). 58 ∷ 123 ∷ x) (pc .text ∙ ap (writePairs (c .0 .0)) (expect-ok l (bytes "}") (c .0 .1) (g .0) (g .1))))
-              ∙ ap (λ (x : ℕ). writeNumber w x (58 ∷ 123 ∷ writePairs (c .0 .0) (125 ∷ g .0))) (sym (pc .all)));
+              ∙ ap (λ (x : ℕ). writeNumber w x (58 ∷ 123 ∷ writePairs (c .0 .0) (125 ∷ g .0))) (sym all));
           sound = (f, pc .sound);
-          limited = (omega (arith, na .fits, pc .all), pc .limited);
+          limited = (omega (arith, na .fits, all), pc .limited);
           backward = pc .backward;
           shallow = (omega arith, rw i (pc .shallow));
           small = omega (arith, pc .small);

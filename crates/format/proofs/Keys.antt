@@ -20,13 +20,13 @@ bytes-same : (s : List ℕ) → T (sameBytes s s)
 bytes-same [] = tt
 bytes-same (a ∷ s) = and-T (eqb a a) (sameBytes s s) (eqb-refl a) (bytes-same s)
 
-integers-equal : (m n : ℤ) → T (sameInteger m n) → m ≡ n
+pub integers-equal : (m n : ℤ) → T (sameInteger m n) → m ≡ n
 integers-equal (pos m) (pos n) h = ap pos (eqb→eq m n h)
 integers-equal (pos m) (negsuc n) h = absurd h
 integers-equal (negsuc m) (pos n) h = absurd h
 integers-equal (negsuc m) (negsuc n) h = ap negsuc (eqb→eq m n h)
 
-integers-same : (m : ℤ) → T (sameInteger m m)
+pub integers-same : (m : ℤ) → T (sameInteger m m)
 integers-same (pos m) = eqb-refl m
 integers-same (negsuc m) = eqb-refl m
 

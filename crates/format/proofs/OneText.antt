@@ -26,11 +26,11 @@ getD-map-in f [] i d d′ h = absurd (omega arith)
 getD-map-in f (x ∷ l) zero d d′ h = refl
 getD-map-in f (x ∷ l) (suc i) d d′ h = getD-map-in f l i d d′ (omega arith)
 
-length-only : (b : Bool) → length (only {A = TreePath} b []) ≡ one b
-length-only true = refl
-length-only false = refl
+pub length-only : {A : Type 0} (b : Bool) (a : A) → length (only b a) ≡ one b
+length-only true a = refl
+length-only false a = refl
 
-one-most : (b : Bool) → one b ≤ 1
+pub one-most : (b : Bool) → one b ≤ 1
 one-most true = omega arith
 one-most false = omega arith
 
@@ -58,7 +58,7 @@ module _ {K L H R : Type 0} (own : R → Bool) where
   mutual
     paths-length : (v : Tree K L H R) → length (paths own v) ≡ ordinals own v
     paths-length (leaf l) = refl
-    paths-length (ref r) = length-only (own r)
+    paths-length (ref r) = length-only (own r) []
     paths-length (branch h ps) = ap suc (pathsIn-length 0 ps)
 
     pathsIn-length : (q : ℕ) (ps : Pairs K L H R) → length (pathsIn own q ps) ≡ ordinalsIn own ps

@@ -9,16 +9,17 @@ use lib.Dec.{eqb, ltb, leb}
 use lib.ListN.{length}
 use Rattle.format.specs.Bytes.{bytes}
 use Rattle.format.specs.Kind.{Kind, tag}
-use Rattle.format.specs.Tree.{leaf, ref, branch, count}
+use Rattle.format.specs.Tree.{leaf, ref, branch}
 use Rattle.format.specs.Syntax.{null, bool, int, float, string, intKey, stringKey, array, object, Spelling, Scalar, Key, Container, RefKind, objectRef, variableRef, refKind, Reference, Value, Values, writeNumber}
 use Rattle.format.specs.Limits.{Seen, seeBranch}
 use Rattle.format.specs.Answer.{Answer, ok, refused, _>>=_, require}
 use Rattle.format.specs.Read.{expect, number, intText, quotedText, boolText, floatText, referenceText, keyText, Setting, isArray, Inner, readPairs, readBranch, readBody}
 use Rattle.format.specs.Table.{Node, single, keyNode, scalarNode, branchNode}
 use Rattle.format.proofs.Answers.{ok-same, not-both, bind-ok}
-use Rattle.scanner.specs.Scans.{countText, namedText, tell}
+use Rattle.scanner.specs.Scans.{countText, namedText}
+use Rattle.scanner.proofs.BytesAt.{plus-two}
 use Rattle.scanner.proofs.Numbers.{kept}
-use Rattle.reader.specs.Texts.{kindFor, isArrayTag, scalarTag, containerTag, referenceTag, scalarText, scalarTold, keyTold, headText, containerTold}
+use Rattle.reader.specs.Texts.{kindFor, isArrayTag, scalarTag, containerTag, referenceTag, scalarText, scalarTold, keyKind, keyTold, headText, containerTold}
 use Rattle.reader.specs.Nodes.{nodeOf}
 
 -- ---- answers
@@ -78,14 +79,11 @@ scalar-tag b o = ⊎-elim (λ e. rw e) (λ o. ⊎-elim (λ e. rw e) (λ o. ⊎-e
 from-tag : (o n : ℕ) → o + 4 + n ≡ o + 1 + 3 + n
 from-tag o n = omega arith
 
-pub two-behind : (o : ℕ) → o + 2 ≡ o + 1 + 1
-two-behind o = omega arith
-
 scalar-told : (o i n next : ℕ) (x : Scalar) → scalarNode o i n x ≡ nodeOf (tag (scalarKind x)) n (suc i) (scalarTold (o + 1) x next)
 scalar-told o i n next null = refl
 scalar-told o i n next (bool b) = refl
 scalar-told o i n next (int x) = refl
-scalar-told o i n next (float t) = ap (λ (k : ℕ). single Kind.float n k (length t) i) (two-behind o)
+scalar-told o i n next (float t) = ap (λ (k : ℕ). single Kind.float n k (length t) i) (sym (plus-two o))
 scalar-told o i n next (string q) = ap (λ (k : ℕ). single Kind.string n k (length (q .text)) i) (from-tag o (length (writeNumber (q .spelling) (length (q .text)) [])))
 
 -- so its node is the one that its tag and its text tell
@@ -95,10 +93,6 @@ scalar-node b l o i n next s q t e =
     ∙ ap (λ (k : ℕ). nodeOf k n (suc i) (scalarTold (o + 1) (q .0) next)) (ap tag (scalar-kind (kindFor b) l s q e) ∙ scalar-tag b t)
 
 -- ---- keys
-
-abbrev pub keyKind : Key → Kind
-keyKind (intKey x) = Kind.int
-keyKind (stringKey q) = Kind.string
 
 pub key-told : (o i next : ℕ) (k : Key) → keyNode o i k ≡ nodeOf (tag (keyKind k)) 0 (suc i) (keyTold (o + 1) k next)
 key-told o i next (intKey x) = refl

@@ -1,5 +1,5 @@
 -- A container, by the definitions of reading. Assumes nothing.
-use Prim.Native.Nat.{ℕ, suc, zero, _+_, _-_, _*_, _≤_, _<_}
+use Prim.Native.Nat.{ℕ, suc, _+_, _-_, _*_, _≤_, _<_}
 use native.Mathlib.Numerals.{add-one}
 use native.Mathlib.Omega.{arith}
 use mathlib.Core.Path.{_≡_, refl, sym, ap, ap₂, _∙_, subst₂, subst}
@@ -10,13 +10,12 @@ use lib.ListN.{length, getD, drop}
 use lib.Seq.{sets, getD-set-same, getD-set-other, length-sets}
 use Rattle.format.specs.Bytes.{byte, bytes}
 use Rattle.format.specs.Tree as tree
-use Rattle.format.specs.Tree.{branch, nodes, nodesIn}
-use Rattle.format.specs.Syntax.{array, object, Spelling, Key, Container, Value, Values, own}
-use Rattle.format.specs.Limits.{Seen, see}
+use Rattle.format.specs.Tree.{branch, nodesIn}
+use Rattle.format.specs.Syntax.{array, object, Spelling, Container, Value, Values}
 use Rattle.format.specs.Answer.{Answer, ok, refused, _>>=_}
-use Rattle.format.specs.Read.{expect, isArray, readKey, readPairs, setting, Setting, Inner}
+use Rattle.format.specs.Read.{expect, isArray, readPairs, setting, Inner}
 use Rattle.format.specs.Table.{Node, words, width, flat, branchNode, pairsOffset, table, tableIn}
-use Rattle.format.proofs.Answers.{ok-same, bind-ok}
+use Rattle.format.proofs.Inversion.{pairs-count}
 use Rattle.scanner.specs.declared.Text.{Text}
 use Rattle.scanner.specs.declared.Scan.{Scan}
 use Rattle.scanner.specs.Scans.{byteAt, Found, Scans}
@@ -31,17 +30,6 @@ use Rattle.reader.proofs.Bodies.{pairsOf, body-head, head-array, head-n
 use Rattle.reader.proofs.HeadTexts.{head-written}
 use Rattle.reader.proofs.Stored.{node-around, run-kept, run-word, points-keep, points-kept, points-step}
 use Rattle.reader.proofs.Leaves.{refused-is, meets-bad}
-
--- so many pairs are read as are asked for
-pairs-count : (set : Setting) (inner : Inner) (a : Bool) (n : ℕ) (earlier : List Key) (seen : Seen) (before : ℕ) (s : List ℕ) (q : Values × List ℕ)
-    → readPairs set inner a n earlier seen before s ≡ ok q → tree.count (q .0) ≡ n
-pairs-count set inner a zero earlier seen before s q e = ap (λ (x : Values × List ℕ). tree.count (x .0)) (sym (ok-same e))
-pairs-count set inner a (suc n) earlier seen before s q e =
-    let k = bind-ok (readKey set a earlier before s) _ q e in
-    let v = bind-ok (inner seen (suc before) (k .0 .1)) _ q (k .2) in
-    let ps = bind-ok (readPairs set inner a n (k .0 .0 ∷ earlier) (see seen (v .0 .0)) (suc (before + nodes (v .0 .0))) (v .0 .1)) _ q (v .2) in
-    ap (λ (x : Values × List ℕ). tree.count (x .0)) (sym (ok-same (ps .2)))
-    ∙ ap suc (pairs-count set inner a n (k .0 .0 ∷ earlier) (see seen (v .0 .0)) (suc (before + nodes (v .0 .0))) (v .0 .1) (ps .0) (ps .1))
 
 -- the cursor at a container's first pair
 abbrev pub within : Cursor → (next : ℕ) → Cursor

@@ -1,52 +1,25 @@
 -- Laws of keys and of the pairs that stand in the table. Assumes nothing.
-use Prim.Native.Nat.{ℕ, zero, suc, _+_, _-_, _≤_, _<_}
+use Prim.Native.Nat.{ℕ, _+_, _≤_, _<_}
 use native.Mathlib.Omega.{arith}
 use mathlib.Core.Path.{_≡_, refl, sym, ap, _∙_, subst}
 use mathlib.Core.Bool.{Bool, true, false, _||_}
 use mathlib.Core.List.{List, [], _∷_, _++_}
 use lib.Dec.{eqb}
-use lib.IntN.{ℤ, pos, negsuc}
 use lib.ListN.{length, take, drop, length-drop}
 use lib.Seq.{length-take-le}
-use borrow.Author.Tests.{eq-eqb, ne-eqb, eqb-true, eqb-false}
+use borrow.Author.Tests.{ne-eqb}
 use Rattle.format.specs.Bytes.{sameBytes}
 use Rattle.format.specs.Kind.{Kind, tag}
-use Rattle.format.specs.Syntax.{Sign, unsigned, plus, minus, Literal, Quoted, intKey, stringKey, Key}
-use Rattle.format.specs.Keys.{integer, signed, sameInteger, sameKey, hasKey}
-use Rattle.format.specs.Limits.{integerLimit}
-use Rattle.format.specs.Fits.{IntFits, KeyFits}
-use Rattle.format.specs.Table.{word}
+use Rattle.format.specs.Syntax.{Quoted, intKey, stringKey, Key}
+use Rattle.format.specs.Keys.{integer, sameKey, hasKey}
+use Rattle.format.specs.Fits.{KeyFits}
+use Rattle.format.specs.Table.{width, word}
+use Rattle.format.proofs.Words.{same-word}
 use Rattle.scanner.proofs.BytesAt.{differ-length}
 use Rattle.reader.specs.declared.seen.KeyWords.{KeyWords}
 use Rattle.reader.specs.declared.seen.Highest.{Highest}
 use Rattle.reader.specs.Nodes.{wordAt}
 use Rattle.reader.specs.KeysSeen.{rank, Held, HeldKey, keyWords, Chain, none, pair, Walk, Reaches, KeyUnder, Under, Raised}
-
--- ---- integers by their patterns
-
--- an integer in range, and its pattern
-data Shape (i : ℤ) (p : ℕ) : Type 0 where
-  up : (n : ℕ) → i ≡ pos n → p ≡ n → n ≤ 9223372036854775807 → Shape i p
-  down : (m : ℕ) → i ≡ negsuc m → p ≡ 18446744073709551616 - suc m → m ≤ 9223372036854775807 → Shape i p
-
-shape : (g : Sign) (n : ℕ) → n ≤ integerLimit g → Shape (signed g n) (word (signed g n))
-shape unsigned n h = up n refl refl h
-shape plus n h = up n refl refl h
-shape minus zero h = up 0 refl refl (omega arith)
-shape minus (suc m) h = down m refl (omega arith) (omega arith)
-
-same-shape : (i j : ℤ) (p q : ℕ) → Shape i p → Shape j q → sameInteger i j ≡ eqb p q
-same-shape i j p q (up n a b l) (up m c d k) = rw (a, c, b, d)
-same-shape i j p q (up n a b l) (down m c d k) = rw (a, c) (sym (ne-eqb p q (λ e. omega arith)))
-same-shape i j p q (down n a b l) (up m c d k) = rw (a, c) (sym (ne-eqb p q (λ e. omega arith)))
-same-shape i j p q (down n a b l) (down m c d k) = rw (a, c) (go (eqb n m) refl)
-  where
-    go : (x : Bool) → eqb n m ≡ x → eqb n m ≡ eqb p q
-    go true e = e ∙ sym (eq-eqb p q (b ∙ ap (λ (x : ℕ). 18446744073709551616 - suc x) (eqb-true n m e) ∙ sym d))
-    go false e = let f = eqb-false n m e in e ∙ sym (ne-eqb p q (λ g. f (omega arith)))
-
-same-word : (x y : Literal) → IntFits x → IntFits y → sameInteger (integer x) (integer y) ≡ eqb (word (integer x)) (word (integer y))
-same-word x y h k = same-shape (integer x) (integer y) (word (integer x)) (word (integer y)) (shape (x .sign) (x .magnitude) h) (shape (y .sign) (y .magnitude) k)
 
 -- ---- two keys
 
@@ -108,8 +81,8 @@ record Stepped (s t : List ℕ) (i n : ℕ) (ks : List Key) : Type 0 where
   rest : List Key
   is : ks ≡ key ∷ rest
   held : Held s key (keyWords t i)
-  on : i + 1 < wordAt t i 11
-  chain : Chain s t (wordAt t i 11) n rest
+  on : i + 1 < wordAt t i (width + 5)
+  chain : Chain s t (wordAt t i (width + 5)) n rest
 
 stepped : {s t : List ℕ} {i n : ℕ} {ks : List Key} → Chain s t i n ks → i < n → Stepped s t i n ks
 stepped {n = n} none h = absurd (omega arith)
@@ -134,10 +107,10 @@ module _ {s t : List ℕ} {first n : ℕ} {w : KeyWords} where
     pub held-here : HeldKey s (keyWords t i)
     held-here = let p = stepped (l .walk .chain) lt in record { key = p .key; held = p .held }
 
-    pub left-on : i + 1 < wordAt t i 11
+    pub left-on : i + 1 < wordAt t i (width + 5)
     left-on = stepped (l .walk .chain) lt .on
 
-    pub left-in : wordAt t i 11 ≤ n
+    pub left-in : wordAt t i (width + 5) ≤ n
     left-in = chain-le (stepped (l .walk .chain) lt .chain)
 
     module _ (r : Bool) (e : (j k : Key) → Held s j (keyWords t i) → Held s k w → r ≡ sameKey k j) where
@@ -147,7 +120,7 @@ module _ {s t : List ℕ} {first n : ℕ} {w : KeyWords} where
           let p = stepped (x .chain) lt in
           sym (x .same ∙ ap (hasKey k) (p .is) ∙ ap (λ (b : Bool). b || hasKey k (p .rest)) (sym (e (p .key) k (p .held) h) ∙ q))
 
-      pub left-more : r ≡ false → Left s t first n w (wordAt t i 11)
+      pub left-more : r ≡ false → Left s t first n w (wordAt t i (width + 5))
       left-more q =
           record {
             walk = (let p = stepped (l .walk .chain) lt in record { keys = p .rest; chain = p .chain });

@@ -28,12 +28,12 @@ use Rattle.scanner.proofs.Numbers.{unfit-of}
 use Rattle.reader.specs.declared.cursor.Cursor.{Cursor}
 use Rattle.reader.specs.declared.cursor.Step.{Step}
 use Rattle.reader.specs.declared.seen.KeyWords.{KeyWords}
-use Rattle.reader.specs.Texts.{kindFor, isArrayTag, keyTold}
+use Rattle.reader.specs.Texts.{kindFor, isArrayTag, keyKind, keyTold}
 use Rattle.reader.specs.Nodes.{nodeOf, wordAt, Placed}
-use Rattle.reader.specs.KeysSeen.{keyTag, Says, Held, keyWords}
+use Rattle.reader.specs.KeysSeen.{Says, Held, keyWords}
 use Rattle.reader.specs.Steps.{Fit, GoodKey, MeetsKey, keyAt, refusalOf}
 use Rattle.reader.proofs.Tagged.{position-is, tag-end, tag-other, tag-is, key-kind-is, key-any, one-of}
-use Rattle.reader.proofs.Bodies.{keyKind, key-told, key-of-int, key-of-string}
+use Rattle.reader.proofs.Bodies.{key-told, key-of-int, key-of-string}
 use Rattle.reader.proofs.Stored.{run-word}
 use Rattle.reader.proofs.Leaves.{refused-is}
 
@@ -79,14 +79,10 @@ module _ (s : List ℕ) (at b : ℕ) (may : mayBeKey b ≡ true) (here : at < le
   pub held-of : Held s (f .what) (record { tag = b; content = x .content; size = x .size })
   held-of =
       record {
-        is = sym (ap tag kind-is ∙ tag-back) ∙ same-tag (f .what);
+        is = sym (ap tag kind-is ∙ tag-back);
         says = says (f .what) at-key (f .tells);
         fits = keyText-ok (kindFor b) 0 (drop (at + 1) s) (f .what, drop (x .next) s) which (f .is 0) .fits;
       }
-    where
-      same-tag : (k : Key) → tag (keyKind k) ≡ keyTag k
-      same-tag (intKey y) = refl
-      same-tag (stringKey q) = refl
 
 -- ---- the steps
 

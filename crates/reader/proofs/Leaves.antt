@@ -84,7 +84,7 @@ module _ (s : List ℕ) (capacity : ℕ) (c : Cursor) where
 
   pub gate-open : (b : ℕ) → IsOpen s capacity c b → valueAt s capacity c ≡ bodyAt s capacity (innerAt s capacity (c .levels - 1)) b c
   unfolding valueAt bodyAt innerAt
-  gate-open b g = at-open s capacity (c .at) (c .node) (c .ordinal) b (g .inside) (g .is) (g .known) (c .levels) (g .level) (g .room)
+  gate-open b g = at-open s capacity (c .at) (c .node) (c .ordinal) b (g .inside) (g .is) (g .known) (c .levels) (g .level) (g .free)
 
 -- ---- a value that holds none
 

@@ -47,7 +47,7 @@ has-snoc x k (j ∷ ks) = ap (λ (b : Bool). sameKey x j || b) (has-snoc x k ks)
 held-kept : {s : List ℕ} (t t′ : List ℕ) (k : Key) (i : ℕ) → ((j : ℕ) → j < width → wordAt t′ i j ≡ wordAt t i j) → Held s k (keyWords t i) → Held s k (keyWords t′ i)
 held-kept t t′ k i same h = rw (same 0 (lit< tt), same 2 (lit< tt), same 3 (lit< tt)) h
 
-chain-more : {s t : List ℕ} (t′ : List ℕ) {i n : ℕ} {ks : List Key} (k : Key) (m : ℕ) → Kept t t′ n → Held s k (keyWords t′ n) → wordAt t′ n 11 ≡ m → n + 1 < m
+chain-more : {s t : List ℕ} (t′ : List ℕ) {i n : ℕ} {ks : List Key} (k : Key) (m : ℕ) → Kept t t′ n → Held s k (keyWords t′ n) → wordAt t′ n (width + 5) ≡ m → n + 1 < m
     → Chain s t i n ks → Chain s t′ i m (ks ++ (k ∷ []))
 chain-more t′ k m same h e l none = pair h e l none
 chain-more {t = t} t′ k m same h e l (pair {i = i} {k = j} a b o c) =
@@ -192,7 +192,7 @@ module _ {s t₀ t : List ℕ} {capacity container count : ℕ} {c₀ c : Cursor
         same-below : Kept t t₂ (c .node)
         same-below i h = g .kept i (omega (arith, k .node)) ∙ run-kept t t₁ (words (keyNode (c .at) (c .node) (k .key))) (c .node) (k .table) i h
 
-        ends : wordAt t₂ (c .node) 11 ≡ next .node
+        ends : wordAt t₂ (c .node) (width + 5) ≡ next .node
         ends = ap (λ (i : ℕ). getD t₂ i 0) (place (k .node)) ∙ g .end
           where
             place : mid .node ≡ c .node + 1 → c .node * width + 11 ≡ mid .node * width + 5

@@ -7,7 +7,7 @@ use Rattle.format.specs.Kind.{Kind, tag}
 use Rattle.format.specs.Syntax.{null, bool, int, float, string, intKey, stringKey}
 use Rattle.format.specs.Read.{expect, intText, quotedText, boolText, floatText, keyText}
 use Rattle.scanner.specs.declared.Scan.{Scan}
-use Rattle.scanner.specs.Scans.{Scans, nullText, nothingTold, boolTold, numberTold, floatTold, quotedTold}
+use Rattle.scanner.specs.Scans.{Scans, nullText, nothingTold, boolTold, literalTold, floatTold, quotedTold}
 use Rattle.scanner.proofs.Numbers.{scans-map}
 use Rattle.reader.specs.Texts.{kindFor, scalarText, scalarTold, keyTold}
 use Rattle.reader.proofs.Bodies.{bind-map}
@@ -25,7 +25,7 @@ module _ (s : List ℕ) (at b : ℕ) (r : Scan) where
   unfolding scalarText kindFor
   scalar-bool e h = as-scalar Kind.bool (rw e) (scans-map bool (λ l s. refl) (λ x next. refl) h)
 
-  pub scalar-int : b ≡ tag Kind.int → Scans intText numberTold s at r → Scans (scalarText (kindFor b)) (scalarTold at) s at r
+  pub scalar-int : b ≡ tag Kind.int → Scans intText literalTold s at r → Scans (scalarText (kindFor b)) (scalarTold at) s at r
   unfolding scalarText kindFor
   scalar-int e h = as-scalar Kind.int (rw e) (scans-map int (λ l s. refl) (λ x next. refl) h)
 
@@ -40,7 +40,7 @@ module _ (s : List ℕ) (at b : ℕ) (r : Scan) where
   as-key : (k : Kind) → kindFor b ≡ k → Scans (keyText k) (keyTold at) s at r → Scans (keyText (kindFor b)) (keyTold at) s at r
   as-key k e h = subst (λ (j : Kind). Scans (keyText j) (keyTold at) s at r) (sym e) h
 
-  pub key-int : b ≡ tag Kind.int → Scans intText numberTold s at r → Scans (keyText (kindFor b)) (keyTold at) s at r
+  pub key-int : b ≡ tag Kind.int → Scans intText literalTold s at r → Scans (keyText (kindFor b)) (keyTold at) s at r
   unfolding keyText kindFor
   key-int e h = as-key Kind.int (rw e) (scans-map intKey (λ l s. refl) (λ x next. refl) h)
 

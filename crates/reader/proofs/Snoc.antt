@@ -7,10 +7,11 @@ use mathlib.Core.List.{List, [], _∷_, _++_, append-assoc, append-nil}
 use mathlib.Core.Bool.{Bool, true, false}
 use lib.Dec.{T}
 use lib.ListN.{length, getD, length-append}
-use Rattle.format.specs.Tree.{leaf, ref, branch, none, pair, count, nodes, nodesIn, ordinals, ordinalsIn, one, only}
+use Rattle.format.specs.Tree.{leaf, ref, branch, none, pair, nodes, nodesIn, ordinals, ordinalsIn, only}
 use Rattle.format.specs.Syntax.{Key, Value, Values, own, write, writeKey, writePairs}
 use Rattle.format.specs.Answer.{Answer, ok, refused, _>>=_}
 use Rattle.format.specs.Table.{Node, words, flat, keyNode, table, tableIn, valueOffset, nextOffset, indices, indicesIn, targetOf}
+use Rattle.format.proofs.OneText.{length-only, one-most}
 use Rattle.format.proofs.Fronts.{key-front, write-front}
 use Rattle.reader.specs.Steps.{Takes, TakesIn}
 
@@ -78,11 +79,7 @@ length-snoc (pair j u ps) k v =
 mutual
   pub ordinals-le : (v : Value) → ordinals own v ≤ nodes v
   ordinals-le (leaf x) = omega arith
-  ordinals-le (ref r) = at-most (own r)
-    where
-      at-most : (b : Bool) → one b ≤ 1
-      at-most true = omega arith
-      at-most false = omega arith
+  ordinals-le (ref r) = one-most (own r)
   ordinals-le (branch h ps) = omega (arith, ordinalsIn-le ps)
 
   ordinalsIn-le : (ps : Values) → ordinalsIn own ps ≤ nodesIn ps
@@ -124,14 +121,10 @@ takes-snoc to (pair j u ps) k v i n q =
     number : (a b c : ℕ) → a + b + c ≡ a + (b + c)
     number a b c = omega arith
 
-only-length : (b : Bool) (i : ℕ) → length (only b i) ≡ one b
-only-length true i = refl
-only-length false i = refl
-
 mutual
   indices-length : (v : Value) (i : ℕ) → length (indices i v) ≡ ordinals own v
   indices-length (leaf x) i = refl
-  indices-length (ref r) i = only-length (own r) i
+  indices-length (ref r) i = length-only (own r) i
   indices-length (branch h ps) i = ap suc (indicesIn-length ps (suc i))
 
   indicesIn-length : (ps : Values) (i : ℕ) → length (indicesIn i ps) ≡ ordinalsIn own ps

@@ -10,7 +10,7 @@ use borrow.Author.Tests.{le-leb, lt-leb}
 use Rattle.format.specs.Bytes.{isEmpty}
 use Rattle.format.specs.Tree.{nodes, ordinals}
 use Rattle.format.specs.Syntax.{Value, own}
-use Rattle.format.specs.Limits.{sourceLimit}
+use Rattle.format.specs.Limits.{sourceLimit, depthLimit}
 use Rattle.format.specs.Answer.{Answer, ok, refused, _>>=_, require}
 use Rattle.format.specs.Read.{read}
 use Rattle.format.specs.Table.{width, flat, tableOf, targetOf}
@@ -27,7 +27,7 @@ use Rattle.reader.proofs.Tagged.{position-is}
 
 -- the cursor at a plan's first byte
 abbrev pub start : Cursor
-start = record { at = 0; node = 0; ordinal = 0; levels = 64 }
+start = record { at = 0; node = 0; ordinal = 0; levels = depthLimit }
 
 module _ (s : List ℕ) (capacity : ℕ) where
   pub whole-long : sourceLimit < length s → read capacity s ≡ refused 1 0

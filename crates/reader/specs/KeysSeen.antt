@@ -7,7 +7,8 @@ use Rattle.format.specs.Kind.{Kind, tag}
 use Rattle.format.specs.Syntax.{intKey, stringKey, Key}
 use Rattle.format.specs.Keys.{integer}
 use Rattle.format.specs.Fits.{KeyFits}
-use Rattle.format.specs.Table.{word}
+use Rattle.format.specs.Table.{width, word}
+use Rattle.reader.specs.Texts.{keyKind}
 use Rattle.reader.specs.Nodes.{wordAt}
 use Rattle.reader.specs.declared.seen.KeyWords.{KeyWords}
 use Rattle.reader.specs.declared.seen.Highest.{Highest}
@@ -16,10 +17,6 @@ use Rattle.reader.specs.declared.seen.Highest.{Highest}
 abbrev pub rank : ℕ → ℕ
 rank w = (w + 9223372036854775808) % 2 ^ 64
 
-abbrev pub keyTag : Key → ℕ
-keyTag (intKey x) = tag Kind.int
-keyTag (stringKey q) = tag Kind.string
-
 -- words 2 and 3, and the source, say the key
 abbrev pub Says : List ℕ → Key → (content size : ℕ) → Type 0
 Says s (intKey x) content size = word (integer x) ≡ content
@@ -27,7 +24,7 @@ Says s (stringKey q) content size = (q .text ≡ take size (drop content s)) × 
 
 -- a key's words say the key
 pub record Held (s : List ℕ) (k : Key) (w : KeyWords) : Type 0 where
-  pub is : w .tag ≡ keyTag k
+  pub is : w .tag ≡ tag (keyKind k)
   pub says : Says s k (w .content) (w .size)
   pub fits : KeyFits k
 
@@ -42,7 +39,7 @@ keyWords t node = record { tag = wordAt t node 0; content = wordAt t node 2; siz
 -- from node i on pairs stand up to node n, with these keys; a pair ends where word 5 of its value says
 pub data Chain (s t : List ℕ) : ℕ → ℕ → List Key → Type 0 where
   none : {n : ℕ} → Chain s t n n []
-  pair : {i n next : ℕ} {k : Key} {ks : List Key} → Held s k (keyWords t i) → wordAt t i 11 ≡ next → i + 1 < next → Chain s t next n ks → Chain s t i n (k ∷ ks)
+  pair : {i n next : ℕ} {k : Key} {ks : List Key} → Held s k (keyWords t i) → wordAt t i (width + 5) ≡ next → i + 1 < next → Chain s t next n ks → Chain s t i n (k ∷ ks)
 
 pub record Walk (s t : List ℕ) (first node : ℕ) : Type 0 where
   pub keys : List Key

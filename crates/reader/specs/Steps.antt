@@ -2,7 +2,7 @@
 use mathlib.Core.Path.{_≡_}
 use mathlib.Core.Bool.{true}
 use mathlib.Core.List.{List, []}
-use Prim.Native.Nat.{ℕ, suc, _+_, _-_, _*_, _≤_, _<_}
+use Prim.Native.Nat.{ℕ, suc, _+_, _*_, _≤_, _<_}
 use lib.Dec.{T}
 use lib.ListN.{length, getD, drop}
 use lib.Seq.{sets}
@@ -149,7 +149,7 @@ pub record IsOpen (s : List ℕ) (capacity : ℕ) (c : Cursor) (tag : ℕ) : Typ
   pub is : getD s (c .at) 0 ≡ tag
   pub known : isTagOf kinds tag ≡ true
   pub level : 0 < c .levels
-  pub room : c .node < capacity
+  pub free : c .node < capacity
 
 abbrev pub GateAt : (s : List ℕ) (capacity : ℕ) (c : Cursor) → Gate → Type 0
 GateAt s capacity c (Gate.Open tag) = IsOpen s capacity c tag

@@ -11,7 +11,7 @@ use Rattle.format.specs.Kind.{Kind, kinds, tag}
 use Rattle.format.specs.Syntax.{intKey, stringKey, null, bool, int, float, string, array, object, Spelling, Key, Scalar, Container}
 use Rattle.format.specs.Answer.{ok, refused, _>>=_}
 use Rattle.format.specs.Read.{expect, intText, quotedText, boolText, floatText}
-use Rattle.scanner.specs.Scans.{Reader, Told, countText, tell, boolTold, numberTold, floatTold, quotedTold}
+use Rattle.scanner.specs.Scans.{Reader, Told, countText, tell, boolTold, literalTold, floatTold, quotedTold}
 
 -- the first of some kinds with this tag
 abbrev pub among : List Kind → ℕ → Kind
@@ -54,12 +54,16 @@ scalarText Kind.variableReference l s = refused 3 l
 abbrev pub scalarTold : (at : ℕ) → Told Scalar
 scalarTold at null next = tell 0 0 0 next
 scalarTold at (bool b) next = boolTold b next
-scalarTold at (int x) next = numberTold x next
+scalarTold at (int x) next = literalTold x next
 scalarTold at (float t) next = floatTold at t next
 scalarTold at (string q) next = quotedTold at q next
 
+abbrev pub keyKind : Key → Kind
+keyKind (intKey x) = Kind.int
+keyKind (stringKey q) = Kind.string
+
 abbrev pub keyTold : (at : ℕ) → Told Key
-keyTold at (intKey x) next = numberTold x next
+keyTold at (intKey x) next = literalTold x next
 keyTold at (stringKey q) next = quotedTold at q next
 
 -- what follows a container's tag, up to its first pair: the container and its count

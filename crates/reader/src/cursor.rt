@@ -32,6 +32,7 @@ pub(crate) fn refused(scan: Scan, at: usize) -> Step
 {
     match scan {
         Scan::Not(code) => Step::Refused(code, at),
+        // Callers ask only for texts that are none.
         Scan::Is(_) => Step::Refused(2, at),
     }
 }

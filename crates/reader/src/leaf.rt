@@ -7,7 +7,6 @@ use crate::table::place;
 use format::kind::Kind;
 use scanner::Scan;
 use scanner::Text;
-ghost use mathlib.Core.Path.{_≡_};
 ghost use Prim.Native.Nat.{_+_, _<_};
 ghost use lib.ListN.{length};
 ghost use Rattle.format.specs.Read.{Inner};

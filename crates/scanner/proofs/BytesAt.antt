@@ -67,10 +67,10 @@ expect-no l s i w ws e = go (order i (length s))
 
 -- ---- two bytes
 
-module _ (s : List ℕ) (i v w : ℕ) where
-  plus-two : (m : ℕ) → m + 1 + 1 ≡ m + 2
-  plus-two m = omega arith
+pub plus-two : (m : ℕ) → m + 1 + 1 ≡ m + 2
+plus-two m = omega arith
 
+module _ (s : List ℕ) (i v w : ℕ) where
   first-is : (a b : Bool) → (a && b) ≡ true → a ≡ true
   first-is true b e = refl
   first-is false b e = e

@@ -20,7 +20,8 @@ use Rattle.format.specs.Limits.{signOf, isFloat, isDecimal, isExponent, fractio
 use Rattle.format.specs.Answer.{Answer, ok, require, _>>=_}
 use Rattle.format.specs.Read.{expect, until, floatText}
 use Rattle.scanner.specs.declared.Scan.{Scan}
-use Rattle.scanner.specs.Scans.{byteAt, Scans, found, unfit, tell, floatTold, SignEnd, SemicolonAt}
+use Rattle.scanner.specs.Scans.{byteAt, Scans, found, unfit, tell, floatTold}
+use Rattle.scanner.specs.Parts.{SignEnd, SemicolonAt}
 use Rattle.scanner.proofs.BytesAt.{byte-there, drop-byte, byte-other, expect-yes, expect-no}
 use Rattle.scanner.proofs.Numbers.{SignAt, sign-plus, sign-minus, sign-none, run-rest, run-inside}
 

@@ -23,7 +23,8 @@ use Rattle.format.specs.Read.{expect, digits, number, intText}
 use Rattle.format.specs.Table.{word}
 use Rattle.scanner.specs.declared.Text.{Text}
 use Rattle.scanner.specs.declared.Scan.{Scan}
-use Rattle.scanner.specs.Scans.{byteAt, Reader, Told, Found, Scans, found, unfit, digitsText, signedText, countText, namedText, tell, valueTold, integerTold, numberTold, countTold}
+use Rattle.scanner.specs.Scans.{byteAt, Reader, Told, Found, Scans, found, unfit, scanned, scanOf, Answers, countText, namedText, tell, valueTold, literalTold, countTold}
+use Rattle.scanner.specs.Parts.{digitsText, signedText, signedTold}
 use Rattle.scanner.proofs.BytesAt.{byte-there, drop-byte, byte-other, expect-yes, expect-no, pair-there, pair-yes, pair-no}
 
 -- ---- answers
@@ -49,6 +50,19 @@ module _ {A : Type 0} {read : Reader A} {told : Told A} {s : List ℕ} {at : ℕ
     where
       not-same : {a b : ℕ} → Scan.Not a ≡ Scan.Not b → a ≡ b
       not-same e = cc
+
+-- what is read determines the answer
+pub answered : {A : Type 0} {read : Reader A} {told : Told A} {s : List ℕ} {at : ℕ} {r : Scan} → Scans read told s at r → Answers read told s at r
+unfolding scanOf
+answered {told = told} {s} {at} (found t f) =
+    record {
+      answer = ap Scan.Is (f .tells ∙ ap (told (f .what)) (ends (f .inside))) ∙ sym (ap (scanned told (length s)) (f .is 0));
+      scans = found t f;
+    }
+  where
+    ends : t .next ≤ length s → t .next ≡ length s - length (drop (t .next) s)
+    ends h = omega (arith, length-drop (t .next) s)
+answered {told = told} {s} (unfit c f) = record { answer = sym (ap (scanned told (length s)) (f 0)); scans = unfit c f }
 
 -- a text whose part is unfit is unfit as its part is
 pub unfit-part : {A B : Type 0} {read : Reader A} {told : Told A} {whole : Reader B} {tells : Told B} {s : List ℕ} {at from c : ℕ} {r : Scan}
@@ -121,12 +135,12 @@ module _ (s : List ℕ) (at top : ℕ) (r : Run) (h : RunAt s at (top + 1) r) wh
 -- ---- integers
 
 module _ (s : List ℕ) (at : ℕ) (negative : Bool) (top : ℕ) (run : Text) (n : Found (digitsText top) valueTold s at run) where
-  pub magnitude-open : eqb (byteAt s (run .next)) (byte ";") ≡ false → Scans (signedText top) (integerTold negative) s at (Scan.Not 2)
+  pub magnitude-open : eqb (byteAt s (run .next)) (byte ";") ≡ false → Scans (signedText top) (signedTold negative) s at (Scan.Not 2)
   unfolding signedText
   magnitude-open e = unfit 2 (λ l. rw (signedText, n .is l, expect-no l s (run .next) (byte ";") [] e))
 
   pub magnitude-is : (w : ℕ) → w ≡ pattern 64 negative (run .content) → eqb (byteAt s (run .next)) (byte ";") ≡ true
-      → Scans (signedText top) (integerTold negative) s at (Scan.Is (tell w 0 0 (run .next + 1)))
+      → Scans (signedText top) (signedTold negative) s at (Scan.Is (tell w 0 0 (run .next + 1)))
   unfolding signedText
   magnitude-is w h e =
       let k : run .next < length s = byte-there s (run .next) (byte ";") (lit< tt) e in
@@ -138,7 +152,7 @@ module _ (s : List ℕ) (at : ℕ) (negative : Bool) (top : ℕ) (run : Text) (n
         inside = omega arith;
       }
 
-pub magnitude-not : {s : List ℕ} {at c : ℕ} {r : Scan} (negative : Bool) (top : ℕ) → Scans (digitsText top) valueTold s at r → r ≡ Scan.Not c → Scans (signedText top) (integerTold negative) s at r
+pub magnitude-not : {s : List ℕ} {at c : ℕ} {r : Scan} (negative : Bool) (top : ℕ) → Scans (digitsText top) valueTold s at r → r ≡ Scan.Not c → Scans (signedText top) (signedTold negative) s at r
 unfolding signedText
 magnitude-not negative top h e = unfit-part h e (λ l q. rw (signedText, q))
 
@@ -176,7 +190,7 @@ sign-word minus z zero = refl
 sign-word minus z (suc n) = refl
 
 module _ (s : List ℕ) (at : ℕ) where
-  pub int-open : eqb (byteAt s at) (byte ":") ≡ false → Scans intText numberTold s at (Scan.Not 2)
+  pub int-open : eqb (byteAt s at) (byte ":") ≡ false → Scans intText literalTold s at (Scan.Not 2)
   unfolding intText
   int-open e = unfit 2 (λ l. rw (intText, expect-no l s at (byte ":") [] e))
 
@@ -185,7 +199,7 @@ module _ (s : List ℕ) (at : ℕ) where
     unfolding intText signedText
     opened l = rw (intText, expect-yes l s at (byte ":") [] (lit< tt) colon, sg .is) (after-part (digits l (integerLimit g) (drop from s)) (expect l (bytes ";")) (literal g))
 
-    pub int-is : (r : Scan) → Scans (signedText (integerLimit g)) (integerTold (isMinus g)) s from r → Scans intText numberTold s at r
+    pub int-is : (r : Scan) → Scans (signedText (integerLimit g)) (signedTold (isMinus g)) s from r → Scans intText literalTold s at r
     int-is r (found t f) =
         found t record {
           what = literal g (f .what);

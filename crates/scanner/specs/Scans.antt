@@ -1,17 +1,15 @@
--- What a scan answers: the definition's answer from its index on, and what the text tells its node.
+-- What the public scans promise: the definition's answer from their index on, and what the text tells its node.
 use mathlib.Core.Path.{_≡_}
 use mathlib.Core.List.{List, []}
 use mathlib.Core.Bool.{Bool}
 use Prim.Native.Nat.{ℕ, _+_, _-_, _≤_, _<_}
-use lib.ListN.{length, getD, take, drop}
-use Rattle.decimal.specs.Complement.{pattern}
-use Rattle.format.specs.Bytes.{byte, bytes}
+use lib.ListN.{length, getD, drop}
+use Rattle.format.specs.Bytes.{bytes}
 use Rattle.format.specs.Tree.{one}
 use Rattle.format.specs.Syntax.{Spelling, Literal, Quoted, writeNumber}
 use Rattle.format.specs.Keys.{integer}
-use Rattle.format.specs.Limits.{signOf}
 use Rattle.format.specs.Answer.{Answer, ok, refused, _>>=_}
-use Rattle.format.specs.Read.{expect, until, digits, number}
+use Rattle.format.specs.Read.{expect, number}
 use Rattle.format.specs.Table.{word}
 use Rattle.scanner.specs.declared.Text.{Text}
 use Rattle.scanner.specs.declared.Scan.{Scan}
@@ -28,7 +26,15 @@ Reader A = (l : ℕ) → List ℕ → Answer (A × List ℕ)
 abbrev pub Told : Type 0 → Type 0
 Told A = A → (next : ℕ) → Text
 
--- a text from `at` on: what is read of it, and that it tells that
+-- WHAT A SCAN ANSWERS: what the definition reads from `at` on, as words and the index behind it; or the number of its refusal, at whichever tag
+abbrev pub scanned : {A : Type 0} → Told A → (size : ℕ) → Answer (A × List ℕ) → Scan
+scanned told size (ok (x, rest)) = Scan.Is (told x (size - length rest))
+scanned told size (refused c at) = Scan.Not c
+
+unfoldable pub scanOf : {A : Type 0} → Reader A → Told A → (s : List ℕ) → (at : ℕ) → Scan
+scanOf read told s at = scanned told (length s) (read 0 (drop at s))
+
+-- a text from `at` on: what is read of it, that it tells that, and where it ends
 pub record Found {A : Type 0} (read : Reader A) (told : Told A) (s : List ℕ) (at : ℕ) (t : Text) : Type 0 where
   pub what : A
   pub is : (l : ℕ) → read l (drop at s) ≡ ok (what, drop (t .next) s)
@@ -36,22 +42,17 @@ pub record Found {A : Type 0} (read : Reader A) (told : Told A) (s : List ℕ) (
   pub on : at < t .next
   pub inside : t .next ≤ length s
 
--- a scan's answer: the text, or the number of the refusal at its tag
+-- the same for those who go on reading: what is read, wherever the tag stands
 pub data Scans {A : Type 0} (read : Reader A) (told : Told A) (s : List ℕ) (at : ℕ) : Scan → Type 0 where
   found : (t : Text) → Found read told s at t → Scans read told s at (Scan.Is t)
   unfit : (c : ℕ) → ((l : ℕ) → read l (drop at s) ≡ refused c l) → Scans read told s at (Scan.Not c)
 
+-- the promise of each scan
+pub record Answers {A : Type 0} (read : Reader A) (told : Told A) (s : List ℕ) (at : ℕ) (r : Scan) : Type 0 where
+  pub answer : r ≡ scanOf read told s at
+  pub scans : Scans read told s at r
+
 -- ---- the texts that are part of a text of `Read`
-
-abbrev pub digitsText : (top : ℕ) → Reader (ℕ × ℕ)
-digitsText top l s = digits l top s
-
--- what follows an integer's sign: its leading zeros and its magnitude
-unfoldable pub signedText : (top : ℕ) → Reader (ℕ × ℕ)
-signedText top l s = do
-  (n, s₁) ← digits l top s
-  s₂ ← expect l (bytes ";") s₁
-  ok (n, s₂)
 
 -- the semicolon of an N
 unfoldable pub nullText : Reader (Unit {0})
@@ -88,11 +89,8 @@ boolTold b next = tell (one b) 0 0 next
 abbrev pub valueTold : {Z : Type 0} → Told (Z × ℕ)
 valueTold n next = tell (n .1) 0 0 next
 
-abbrev pub integerTold : (negative : Bool) → Told (ℕ × ℕ)
-integerTold negative n next = tell (pattern 64 negative (n .1)) 0 0 next
-
-abbrev pub numberTold : Told Literal
-numberTold x next = tell (word (integer x)) 0 0 next
+abbrev pub literalTold : Told Literal
+literalTold x next = tell (word (integer x)) 0 0 next
 
 abbrev pub countTold : Told (Spelling × ℕ)
 countTold n next = tell 0 0 (n .1) next
@@ -103,16 +101,3 @@ floatTold at t next = tell (at + 1) (length t) 0 next
 
 abbrev pub quotedTold : (at : ℕ) → Told Quoted
 quotedTold at q next = tell (at + 3 + length (writeNumber (q .spelling) (length (q .text)) [])) (length (q .text)) 0 next
-
--- ---- parts of a float text
-
-pub record SignEnd (s : List ℕ) (at next : ℕ) : Type 0 where
-  pub rest : signOf (drop at s) .1 ≡ drop next s
-  pub inside : next ≤ length s
-  pub on : at ≤ next
-
-pub record SemicolonAt (s : List ℕ) (at next : ℕ) : Type 0 where
-  pub part : until (byte ";") (drop at s) ≡ take (next - at) (drop at s)
-  pub stop : next < length s → getD s next 0 ≡ byte ";"
-  pub inside : next ≤ length s
-  pub on : at ≤ next

@@ -4,11 +4,11 @@ use crate::Text;
 use crate::bytes::byte_is;
 use crate::bytes::bytes_are;
 ghost use Rattle.format.specs.Read.{boolText};
-ghost use Rattle.scanner.specs.Scans.{Scans, nullText, nothingTold, boolTold};
+ghost use Rattle.scanner.specs.Scans.{Answers, nullText, nothingTold, boolTold};
 
 // The semicolon of an N.
 pub fn null(source: &[u8], at: usize) -> Scan
-    ensures { λ r. ⌜ Scans nullText nothingTold (now (source .entry)) at r ⌝ }
+    ensures { λ r. ⌜ Answers nullText nothingTold (now (source .entry)) at r ⌝ }
 {
     if !byte_is(source, at, b';') {
         return Scan::Not(2);
@@ -23,7 +23,7 @@ pub fn null(source: &[u8], at: usize) -> Scan
 
 // The bit of a b.
 pub fn boolean(source: &[u8], at: usize) -> Scan
-    ensures { λ r. ⌜ Scans boolText boolTold (now (source .entry)) at r ⌝ }
+    ensures { λ r. ⌜ Answers boolText boolTold (now (source .entry)) at r ⌝ }
 {
     if !byte_is(source, at, b':') {
         return Scan::Not(2);

@@ -8,7 +8,8 @@ ghost use Prim.Native.Nat.{_≤_};
 ghost use lib.ListN.{length, drop};
 ghost use Rattle.format.specs.Limits.{isFloat, isDecimal, isExponent};
 ghost use Rattle.format.specs.Read.{floatText};
-ghost use Rattle.scanner.specs.Scans.{Scans, floatTold, SignEnd, SemicolonAt};
+ghost use Rattle.scanner.specs.Scans.{Answers, floatTold};
+ghost use Rattle.scanner.specs.Parts.{SignEnd, SemicolonAt};
 
 // The index after an optional sign.
 fn sign_end(part: &[u8], at: usize) -> usize
@@ -102,7 +103,7 @@ fn semicolon_at(source: &[u8], at: usize) -> usize
 
 // A float text, up to its semicolon.
 pub fn float(source: &[u8], at: usize) -> Scan
-    ensures { λ r. ⌜ Scans floatText (floatTold at) (now (source .entry)) at r ⌝ }
+    ensures { λ r. ⌜ Answers floatText (floatTold at) (now (source .entry)) at r ⌝ }
 {
     if !byte_is(source, at, b':') {
         return Scan::Not(2);

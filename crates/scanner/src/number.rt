@@ -3,18 +3,18 @@ use crate::Scan;
 use crate::Text;
 use crate::bytes::byte_is;
 use crate::bytes::bytes_are;
-ghost use mathlib.Core.Path.{_≡_};
 ghost use Prim.Native.Nat.{_-_, _<_, _^_};
 ghost use Rattle.format.specs.Read.{intText};
-ghost use Rattle.scanner.specs.Scans.{Scans, digitsText, signedText, countText, namedText, valueTold, integerTold, numberTold, countTold};
+ghost use Rattle.scanner.specs.Scans.{Scans, Answers, countText, namedText, valueTold, literalTold, countTold};
+ghost use Rattle.scanner.specs.Parts.{digitsText, signedText, signedTold};
 
 // "*Number* below means digits without sign, of value at most 65,536."
 pub(crate) const NUMBER_LIMIT: u64 = 65536;
 
 // The greatest magnitudes of an integer: with no sign or a `+`, and with a `-`.
-const INT_MAX: u64 = 9223372036854775807;
+const POSITIVE_LIMIT: u64 = 9223372036854775807;
 
-const INT_MIN: u64 = 9223372036854775808;
+const NEGATIVE_LIMIT: u64 = 9223372036854775808;
 
 // A run of digits of at most `top`: it "is taken whole, then 5 is tested".
 pub(crate) fn digits(source: &[u8], at: usize, top: u64) -> Scan
@@ -41,7 +41,7 @@ pub(crate) fn digits(source: &[u8], at: usize, top: u64) -> Scan
 // The digits of an integer behind its sign, and the semicolon.
 fn magnitude(source: &[u8], at: usize, negative: bool, top: u64) -> Scan
     requires { ⌜ top < 2 ^ 64 - 1 ⌝ }
-    ensures { λ r. ⌜ Scans (signedText top) (integerTold negative) (now (source .entry)) at r ⌝ }
+    ensures { λ r. ⌜ Scans (signedText top) (signedTold negative) (now (source .entry)) at r ⌝ }
 {
     let scan = digits(source, at, top);
     let Scan::Is(run) = scan else {
@@ -61,24 +61,24 @@ fn magnitude(source: &[u8], at: usize, negative: bool, top: u64) -> Scan
 
 // An integer.
 pub fn int(source: &[u8], at: usize) -> Scan
-    ensures { λ r. ⌜ Scans intText numberTold (now (source .entry)) at r ⌝ }
+    ensures { λ r. ⌜ Answers intText literalTold (now (source .entry)) at r ⌝ }
 {
     if !byte_is(source, at, b':') {
         return Scan::Not(2);
     }
     let from = at + 1;
     if byte_is(source, from, b'+') {
-        return magnitude(source, from + 1, false, INT_MAX);
+        return magnitude(source, from + 1, false, POSITIVE_LIMIT);
     }
     if byte_is(source, from, b'-') {
-        return magnitude(source, from + 1, true, INT_MIN);
+        return magnitude(source, from + 1, true, NEGATIVE_LIMIT);
     }
-    magnitude(source, from, false, INT_MAX)
+    magnitude(source, from, false, POSITIVE_LIMIT)
 }
 
 // A count of pairs and the opening brace, from behind the colon on.
 pub fn count(source: &[u8], at: usize) -> Scan
-    ensures { λ r. ⌜ Scans countText countTold (now (source .entry)) at r ⌝ }
+    ensures { λ r. ⌜ Answers countText countTold (now (source .entry)) at r ⌝ }
 {
     let scan = digits(source, at, NUMBER_LIMIT);
     let Scan::Is(run) = scan else {
@@ -98,7 +98,7 @@ pub fn count(source: &[u8], at: usize) -> Scan
 
 // The ordinal that a reference names.
 pub fn named(source: &[u8], at: usize) -> Scan
-    ensures { λ r. ⌜ Scans namedText valueTold (now (source .entry)) at r ⌝ }
+    ensures { λ r. ⌜ Answers namedText valueTold (now (source .entry)) at r ⌝ }
 {
     if !byte_is(source, at, b':') {
         return Scan::Not(2);

@@ -8,11 +8,11 @@ use crate::number::digits;
 ghost use mathlib.Core.List.{[], _∷_};
 ghost use Rattle.format.specs.Bytes.{byte};
 ghost use Rattle.format.specs.Read.{quotedText};
-ghost use Rattle.scanner.specs.Scans.{Scans, quotedTold};
+ghost use Rattle.scanner.specs.Scans.{Answers, quotedTold};
 
 // A length and so many bytes between quotes, "of any kind": the length alone says where they end.
 pub fn quoted(source: &[u8], at: usize, close: u8) -> Scan
-    ensures { λ r. ⌜ Scans (λ l. quotedText l (byte "\"" ∷ close ∷ [])) (quotedTold at) (now (source .entry)) at r ⌝ }
+    ensures { λ r. ⌜ Answers (λ l. quotedText l (byte "\"" ∷ close ∷ [])) (quotedTold at) (now (source .entry)) at r ⌝ }
 {
     if !byte_is(source, at, b':') {
         return Scan::Not(2);

@@ -92,7 +92,7 @@ impl<'a> Reader<'a> {
         if depth > DEPTH_LIMIT {
             return refused(8, start);
         }
-        self.room(start)?;
+        self.next_node_fits(start)?;
         self.at += 1;
         match tag {
             b'a' | b'O' => self.container(tag, start, depth),
@@ -171,7 +171,7 @@ impl<'a> Reader<'a> {
         if tag != b's' && (tag != b'i' || container == b'O') {
             return refused(4, start);
         }
-        self.room(start)?;
+        self.next_node_fits(start)?;
         self.at += 1;
         let content = self.scalar(tag, start)?;
         self.put(tag, 0, content);
@@ -189,7 +189,7 @@ impl<'a> Reader<'a> {
         }
     }
 
-    fn room(&self, start: usize) -> Step<()> {
+    fn next_node_fits(&self, start: usize) -> Step<()> {
         if self.nodes == self.table.len() / WIDTH {
             return refused(7, start);
         }

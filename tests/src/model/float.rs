@@ -12,14 +12,14 @@ pub fn is_float_text(text: &[u8]) -> bool {
     }
 }
 
-/// "Digits with at most one point, at least one digit in all."
+/// "digits with at most one point, at least one digit in all"
 fn is_mantissa(text: &[u8]) -> bool {
     let points = text.iter().filter(|&&byte| byte == b'.').count();
     let digits = text.iter().filter(|byte| byte.is_ascii_digit()).count();
     points <= 1 && digits >= 1 && points + digits == text.len()
 }
 
-/// "Optional sign, one digit or more."
+/// "optional sign, one digit or more"
 fn is_exponent(text: &[u8]) -> bool {
     let digits = without_sign(text);
     !digits.is_empty() && digits.iter().all(u8::is_ascii_digit)

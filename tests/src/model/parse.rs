@@ -29,7 +29,7 @@ pub fn parse(source: &[u8], capacity: usize) -> Parsed {
     }
 }
 
-/// The tags a container allows for its keys: "a key of `a` is an i or an s; a key of `O` is an s".
+/// "A key of `a` is an i or an s; a key of `O` is an s"
 const ARRAY_KEYS: &[u8] = b"is";
 const OBJECT_KEYS: &[u8] = b"s";
 
@@ -68,8 +68,8 @@ impl Parser<'_> {
         if depth > DEEPEST {
             return Err(Code::TooDeep.at(at));
         }
-        self.take_room(at)?;
-        // "At most the count taken so far, an r's own number not included."
+        self.take_node(at)?;
+        // "at most the count taken so far, an r's own number not included"
         let named_at_most = self.ordinals;
         if tag != b'R' {
             self.ordinals += 1;
@@ -93,7 +93,7 @@ impl Parser<'_> {
         }
     }
 
-    fn take_room(&mut self, at: usize) -> Result<(), Refusal> {
+    fn take_node(&mut self, at: usize) -> Result<(), Refusal> {
         if self.nodes >= self.capacity {
             return Err(Code::NoCapacity.at(at));
         }
@@ -181,7 +181,7 @@ impl Parser<'_> {
     fn key(&mut self, tags: &[u8]) -> Result<Key, Refusal> {
         let at = self.scanner.position();
         let tag = self.tag(tags, Code::UnfitKeyTag)?;
-        self.take_room(at)?;
+        self.take_node(at)?;
         self.key_text(tag).map_err(|code| code.at(at))
     }
 

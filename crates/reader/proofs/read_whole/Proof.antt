@@ -1,6 +1,5 @@
 -- `reader::read_whole` meets its contract. Assumes nothing.
 use borrow.Author.Needs.{needs}
-use Prim.Native.Nat.{_-_}
 use mathlib.Core.Path.{subst}
 use Rattle.reader.specs.Steps.{Meets}
 use Rattle.reader.proofs.WholeSteps as whole

@@ -1,5 +1,4 @@
 -- `reader::cursor::check_tag` meets its contract. Assumes nothing.
-use Prim.Native.Nat.{_-_}
 use native.Mathlib.Omega.{arith}
 use mathlib.Core.Path.{sym, refl, _∙_}
 use borrow.Author.Tests.{not-true, not-false}
@@ -27,7 +26,7 @@ returns-4 : tie.Need-returns-4
 returns-4 c = leaves.gate-full _ _ _ _ (c .before .before .before .before .before .if1 .left) refl (sym (c .before .before .before .is-known .ensures) ∙ not-false _ (c .before .before .if2 .left)) (c .before .if3 .left) (c .if4 .taken)
 
 returns-5 : tie.Need-returns-5
-returns-5 c = record { inside = c .before .before .before .before .before .if1 .left; is = refl; known = (sym (c .before .before .before .is-known .ensures) ∙ not-false _ (c .before .before .if2 .left)); level = omega (arith, c .before .if3 .left); room = c .if4 .left }
+returns-5 c = record { inside = c .before .before .before .before .before .if1 .left; is = refl; known = (sym (c .before .before .before .is-known .ensures) ∙ not-false _ (c .before .before .if2 .left)); level = omega (arith, c .before .if3 .left); free = c .if4 .left }
 
 pub check-tag-spec : {M : Type 1} → statement M
 check-tag-spec =

@@ -1,5 +1,4 @@
 -- `reader::cursor::refused` meets its contract. Assumes nothing.
-use Prim.Native.Nat.{_-_}
 use mathlib.Core.Path.{sym, ap}
 use Rattle.scanner.specs.declared.Scan.{Scan}
 use Rattle.reader.specs.Steps.{refusalOf}

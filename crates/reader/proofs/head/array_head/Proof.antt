@@ -1,13 +1,11 @@
 -- `reader::head::array_head` meets its contract. Assumes nothing.
 use borrow.Author.Needs.{needs}
-use Prim.Native.Nat.{_-_, _<_}
 use native.Mathlib.Omega.{arith}
 use mathlib.Core.Path.{sym, _∙_}
 use lib.Dec.{lit<}
 use borrow.Author.Tests.{not-true, not-false}
 use Rattle.format.specs.Bytes.{byte}
-use Rattle.scanner.proofs.BytesAt.{byte-there}
-use Rattle.reader.proofs.Bodies as bodies
+use Rattle.scanner.proofs.BytesAt.{byte-there, plus-two}
 use Rattle.reader.proofs.HeadTexts as heads
 use Rattle.reader.proofs.head.array_head.Statement.{statement}
 use Rattle.reader.proofs.head.array_head.Tie as tie
@@ -28,7 +26,7 @@ count-requires : tie.Need-count-requires
 count-requires c κs = search needs
 
 returns-2 : tie.Need-returns-2
-returns-2 c = heads.array-is _ _ _ (sym (c .before .before .byte-is .ensures) ∙ not-false _ (c .before .if1 .left)) _ (bodies.two-behind _) (c .count .ensures)
+returns-2 c = heads.array-is _ _ _ (sym (c .before .before .byte-is .ensures) ∙ not-false _ (c .before .if1 .left)) _ (sym (plus-two _)) (c .count .ensures .scans)
 
 pub array-head-spec : {M : Type 1} → statement M
 array-head-spec =

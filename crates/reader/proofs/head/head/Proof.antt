@@ -1,5 +1,4 @@
 -- `reader::head::head` meets its contract. Assumes nothing.
-use Prim.Native.Nat.{_-_}
 use Rattle.reader.proofs.Tagged as tagged
 use Rattle.reader.proofs.HeadTexts as heads
 use borrow.Author.Needs.{needs}

@@ -1,5 +1,4 @@
 -- `reader::head::object_head` meets its contract. Assumes nothing.
-use Prim.Native.Nat.{_-_}
 use Rattle.scanner.proofs.Numbers.{found-of}
 use Rattle.reader.proofs.HeadTexts as heads
 use borrow.Author.Needs.{needs}
@@ -19,7 +18,7 @@ enum-told : tie.Need-enum-told
 enum-told c = search needs
 
 returns : tie.Need-returns
-returns c = heads.object-not _ _ _ _ (c .before .before .quoted .ensures) (c .enum-told .given .1)
+returns c = heads.object-not _ _ _ _ (c .before .before .quoted .ensures .scans) (c .enum-told .given .1)
 
 count-requires : tie.Need-count-requires
 count-requires c κs = search needs
@@ -31,10 +30,10 @@ enum-told-2 : tie.Need-enum-told-2
 enum-told-2 c = search needs
 
 returns-2 : tie.Need-returns-2
-returns-2 c = heads.object-count _ _ _ (found-of (c .before .before .before .before .before .before .quoted .ensures) (c .before .before .before .before .named .given .1)) _ _ (c .before .before .count .ensures) (c .enum-told2 .given .1)
+returns-2 c = heads.object-count _ _ _ (found-of (c .before .before .before .before .before .before .quoted .ensures .scans) (c .before .before .before .before .named .given .1)) _ _ (c .before .before .count .ensures .scans) (c .enum-told2 .given .1)
 
 returns-3 : tie.Need-returns-3
-returns-3 c = heads.object-is _ _ _ (found-of (c .before .before .before .before .before .before .before .quoted .ensures) (c .before .before .before .before .before .named .given .1)) _ (found-of (c .before .before .before .count .ensures) (c .before .counted .given .1))
+returns-3 c = heads.object-is _ _ _ (found-of (c .before .before .before .before .before .before .before .quoted .ensures .scans) (c .before .before .before .before .before .named .given .1)) _ (found-of (c .before .before .before .count .ensures .scans) (c .before .counted .given .1))
 
 pub object-head-spec : {M : Type 1} → statement M
 object-head-spec =

@@ -1,5 +1,4 @@
 -- `reader::key::key_text` meets its contract. Assumes nothing.
-use Prim.Native.Nat.{_-_}
 use Rattle.reader.proofs.Tagged as tagged
 use Rattle.reader.proofs.ScalarTexts as scalars
 use borrow.Author.Needs.{needs}
@@ -19,10 +18,10 @@ quoted-requires : tie.Need-quoted-requires
 quoted-requires c κs = search needs
 
 returns : tie.Need-returns
-returns c = scalars.key-int _ _ _ _ (c .before .match .keys1) (c .int .ensures)
+returns c = scalars.key-int _ _ _ _ (c .before .match .keys1) (c .int .ensures .scans)
 
 returns-2 : tie.Need-returns-2
-returns-2 c = scalars.key-string _ _ _ _ (tagged.key-is-string _ (c .before .before .before .pre .1) (c .before .match .rest .1)) (c .quoted .ensures)
+returns-2 c = scalars.key-string _ _ _ _ (tagged.key-is-string _ (c .before .before .before .pre .1) (c .before .match .rest .1)) (c .quoted .ensures .scans)
 
 pub key-text-spec : {M : Type 1} → statement M
 key-text-spec =

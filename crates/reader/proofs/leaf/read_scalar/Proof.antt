@@ -1,6 +1,5 @@
 -- `reader::leaf::read_scalar` meets its contract. Assumes nothing.
 use borrow.Author.Needs.{needs}
-use Prim.Native.Nat.{_-_}
 use Rattle.scanner.proofs.Numbers.{found-of}
 use Rattle.reader.proofs.Leaves as leaves
 use Rattle.reader.proofs.leaf.read_scalar.Statement.{statement}

@@ -1,7 +1,7 @@
 -- `reader::seen::key_at` meets its contract. Assumes nothing.
 use borrow.Author.Needs.{needs}
 use native.Mathlib.Nat.{add-zero}
-use Prim.Native.Nat.{ℕ, _+_, _-_, _*_}
+use Prim.Native.Nat.{ℕ, _+_, _*_}
 use mathlib.Core.Path.{sym, ap}
 use lib.ListN.{getD}
 use Rattle.format.specs.Kind.{tag}

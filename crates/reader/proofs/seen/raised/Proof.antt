@@ -1,6 +1,5 @@
 -- `reader::seen::raised` meets its contract. Assumes nothing.
 use borrow.Author.Needs.{needs}
-use Prim.Native.Nat.{_-_}
 use Rattle.reader.proofs.KeyLaws as keys
 use Rattle.reader.proofs.seen.raised.Statement.{statement}
 use Rattle.reader.proofs.seen.raised.Tie as tie

@@ -1,6 +1,5 @@
 -- `reader::table::place` meets its contract. Assumes nothing.
 use borrow.Author.Needs.{needs}
-use Prim.Native.Nat.{_-_}
 use mathlib.Core.Logic.{inl, inr, ⊎-elim}
 use Rattle.reader.proofs.Placing as placing
 use Rattle.reader.proofs.table.place.Statement.{statement}

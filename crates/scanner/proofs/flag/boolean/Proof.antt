@@ -1,5 +1,4 @@
 -- `scanner::flag::boolean` meets its contract. Assumes nothing.
-use Prim.Native.Nat.{_-_, _<_}
 use mathlib.Core.Path.{sym, _∙_}
 use native.Mathlib.Omega.{arith}
 use lib.Dec.{lit<}
@@ -7,6 +6,7 @@ use borrow.Author.Tests.{not-true, not-false}
 use Rattle.format.specs.Bytes.{byte}
 use Rattle.scanner.proofs.BytesAt.{byte-there, pair-there}
 use Rattle.scanner.proofs.Flags as flags
+use Rattle.scanner.proofs.Numbers.{answered}
 use borrow.Author.Needs.{needs}
 use Rattle.scanner.proofs.flag.boolean.Statement.{statement}
 use Rattle.scanner.proofs.flag.boolean.Tie as tie
@@ -15,7 +15,7 @@ byte-is-requires : tie.Need-byte-is-requires
 byte-is-requires c κs = search needs
 
 returns : tie.Need-returns
-returns c = flags.bool-open _ _ (sym (c .before .byte-is .ensures) ∙ not-true _ (c .if1 .taken))
+returns c = answered (flags.bool-open _ _ (sym (c .before .byte-is .ensures) ∙ not-true _ (c .if1 .taken)))
 
 add-bytes-are : tie.Need-add-bytes-are
 add-bytes-are c = omega (arith, byte-there _ _ (byte ":") (lit< tt) (sym (c .before .byte-is .ensures) ∙ not-false _ (c .if1 .left)))
@@ -27,7 +27,7 @@ add-t7 : tie.Need-add-t7
 add-t7 c = omega (arith, pair-there _ _ _ _ (sym (c .before .bytes-are .ensures) ∙ c .if2 .taken) (lit< tt))
 
 returns-2 : tie.Need-returns-2
-returns-2 c = flags.bool-zero _ _ (sym (c .before .before .before .byte-is .ensures) ∙ not-false _ (c .before .before .if1 .left)) (sym (c .before .bytes-are .ensures) ∙ c .if2 .taken)
+returns-2 c = answered (flags.bool-zero _ _ (sym (c .before .before .before .byte-is .ensures) ∙ not-false _ (c .before .before .if1 .left)) (sym (c .before .bytes-are .ensures) ∙ c .if2 .taken))
 
 add-bytes-are-2 : tie.Need-add-bytes-are-2
 add-bytes-are-2 c = omega (arith, byte-there _ _ (byte ":") (lit< tt) (sym (c .before .before .before .byte-is .ensures) ∙ not-false _ (c .before .before .if1 .left)))
@@ -39,10 +39,10 @@ add-t10 : tie.Need-add-t10
 add-t10 c = omega (arith, pair-there _ _ _ _ (sym (c .before .bytes-are2 .ensures) ∙ c .if3 .taken) (lit< tt))
 
 returns-3 : tie.Need-returns-3
-returns-3 c = flags.bool-one _ _ (sym (c .before .before .before .before .before .byte-is .ensures) ∙ not-false _ (c .before .before .before .before .if1 .left)) (sym (c .before .bytes-are2 .ensures) ∙ c .if3 .taken)
+returns-3 c = answered (flags.bool-one _ _ (sym (c .before .before .before .before .before .byte-is .ensures) ∙ not-false _ (c .before .before .before .before .if1 .left)) (sym (c .before .bytes-are2 .ensures) ∙ c .if3 .taken))
 
 returns-4 : tie.Need-returns-4
-returns-4 c = flags.bool-not _ _ (sym (c .before .before .before .before .before .byte-is .ensures) ∙ not-false _ (c .before .before .before .before .if1 .left)) (sym (c .before .before .before .bytes-are .ensures) ∙ c .before .before .if2 .left) (sym (c .before .bytes-are2 .ensures) ∙ c .if3 .left)
+returns-4 c = answered (flags.bool-not _ _ (sym (c .before .before .before .before .before .byte-is .ensures) ∙ not-false _ (c .before .before .before .before .if1 .left)) (sym (c .before .before .before .bytes-are .ensures) ∙ c .before .before .if2 .left) (sym (c .before .bytes-are2 .ensures) ∙ c .if3 .left))
 
 pub boolean-spec : {M : Type 1} → statement M
 boolean-spec =

@@ -1,5 +1,4 @@
 -- `scanner::float::is_exponent` meets its contract. Assumes nothing.
-use Prim.Native.Nat.{_-_}
 use Rattle.scanner.proofs.Floats as floats
 use borrow.Author.Needs.{needs}
 use Rattle.scanner.proofs.float.is_exponent.Statement.{statement}

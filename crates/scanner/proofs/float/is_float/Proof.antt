@@ -1,5 +1,4 @@
 -- `scanner::float::is_float` meets its contract. Assumes nothing.
-use Prim.Native.Nat.{_-_}
 use mathlib.Core.Path.{sym, _∙_}
 use Rattle.scanner.proofs.Floats as floats
 use borrow.Author.Needs.{needs}

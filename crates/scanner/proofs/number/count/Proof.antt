@@ -1,11 +1,10 @@
 -- `scanner::number::count` meets its contract. Assumes nothing.
-use Prim.Native.Nat.{_-_, _<_}
 use mathlib.Core.Path.{sym, _∙_}
 use native.Mathlib.Omega.{arith}
 use lib.Dec.{lit<}
 use borrow.Author.Tests.{not-true, not-false}
 use Rattle.scanner.proofs.BytesAt.{pair-there}
-use Rattle.scanner.proofs.Numbers.{found-of, count-not, count-open, count-is}
+use Rattle.scanner.proofs.Numbers.{found-of, count-not, count-open, count-is, answered}
 use borrow.Author.Needs.{needs}
 use Rattle.scanner.proofs.number.count.Statement.{statement}
 use Rattle.scanner.proofs.number.count.Tie as tie
@@ -20,19 +19,19 @@ enum-told : tie.Need-enum-told
 enum-told c = search needs
 
 returns : tie.Need-returns
-returns c = count-not (c .before .before .digits .ensures) (c .enum-told .given .1)
+returns c = answered (count-not (c .before .before .digits .ensures) (c .enum-told .given .1))
 
 bytes-are-requires : tie.Need-bytes-are-requires
 bytes-are-requires c κs = search needs
 
 returns-2 : tie.Need-returns-2
-returns-2 c = count-open _ _ _ (found-of (c .before .before .before .before .before .digits .ensures) (c .before .before .before .scan .given .1)) (sym (c .before .bytes-are .ensures) ∙ not-true _ (c .if1 .taken))
+returns-2 c = answered (count-open _ _ _ (found-of (c .before .before .before .before .before .digits .ensures) (c .before .before .before .scan .given .1)) (sym (c .before .bytes-are .ensures) ∙ not-true _ (c .if1 .taken)))
 
 add-t8 : tie.Need-add-t8
 add-t8 c = omega (arith, pair-there _ _ _ _ (sym (c .before .bytes-are .ensures) ∙ not-false _ (c .if1 .left)) (lit< tt))
 
 returns-3 : tie.Need-returns-3
-returns-3 c = count-is _ _ _ (found-of (c .before .before .before .before .before .digits .ensures) (c .before .before .before .scan .given .1)) (sym (c .before .bytes-are .ensures) ∙ not-false _ (c .if1 .left))
+returns-3 c = answered (count-is _ _ _ (found-of (c .before .before .before .before .before .digits .ensures) (c .before .before .before .scan .given .1)) (sym (c .before .bytes-are .ensures) ∙ not-false _ (c .if1 .left)))
 
 pub count-spec : {M : Type 1} → statement M
 count-spec =

@@ -1,5 +1,4 @@
 -- `scanner::number::digits` meets its contract. Assumes nothing.
-use Prim.Native.Nat.{_-_}
 use Rattle.scanner.proofs.Numbers.{digits-none, digits-over, digits-are}
 use borrow.Author.Needs.{needs}
 use Rattle.scanner.proofs.number.digits.Statement.{statement}

@@ -1,5 +1,4 @@
 -- `scanner::number::int` meets its contract. Assumes nothing.
-use Prim.Native.Nat.{_+_, _-_, _<_}
 use mathlib.Core.Path.{sym, _∙_}
 use native.Mathlib.Omega.{arith}
 use lib.Dec.{lit<}
@@ -7,7 +6,7 @@ use borrow.Author.Tests.{not-true, not-false}
 use Rattle.format.specs.Bytes.{byte}
 use Rattle.format.specs.Syntax.{unsigned, plus, minus}
 use Rattle.scanner.proofs.BytesAt.{byte-there}
-use Rattle.scanner.proofs.Numbers.{sign-plus, sign-minus, sign-none, int-open, int-is}
+use Rattle.scanner.proofs.Numbers.{sign-plus, sign-minus, sign-none, int-open, int-is, answered}
 use borrow.Author.Needs.{needs}
 use Rattle.scanner.proofs.number.int.Statement.{statement}
 use Rattle.scanner.proofs.number.int.Tie as tie
@@ -16,7 +15,7 @@ byte-is-requires : tie.Need-byte-is-requires
 byte-is-requires c κs = search needs
 
 returns : tie.Need-returns
-returns c = int-open _ _ (sym (c .before .byte-is .ensures) ∙ not-true _ (c .if1 .taken))
+returns c = answered (int-open _ _ (sym (c .before .byte-is .ensures) ∙ not-true _ (c .if1 .taken)))
 
 add-from : tie.Need-add-from
 add-from c = omega (arith, byte-there _ _ (byte ":") (lit< tt) (sym (c .before .byte-is .ensures) ∙ not-false _ (c .if1 .left)))
@@ -31,7 +30,7 @@ magnitude-requires : tie.Need-magnitude-requires
 magnitude-requires c κs = search needs
 
 returns-2 : tie.Need-returns-2
-returns-2 c = int-is _ _ (sym (c .before .before .before .before .byte-is .ensures) ∙ not-false _ (c .before .before .before .if1 .left)) plus _ (sign-plus _ _ (sym (c .before .before .byte-is2 .ensures) ∙ c .before .if2 .taken)) _ (c .magnitude .ensures)
+returns-2 c = answered (int-is _ _ (sym (c .before .before .before .before .byte-is .ensures) ∙ not-false _ (c .before .before .before .if1 .left)) plus _ (sign-plus _ _ (sym (c .before .before .byte-is2 .ensures) ∙ c .before .if2 .taken)) _ (c .magnitude .ensures))
 
 byte-is-requires-3 : tie.Need-byte-is-requires-3
 byte-is-requires-3 c κs = search needs
@@ -43,13 +42,13 @@ magnitude-requires-2 : tie.Need-magnitude-requires-2
 magnitude-requires-2 c κs = search needs
 
 returns-3 : tie.Need-returns-3
-returns-3 c = int-is _ _ (sym (c .before .before .before .before .before .before .byte-is .ensures) ∙ not-false _ (c .before .before .before .before .before .if1 .left)) minus _ (sign-minus _ _ (sym (c .before .before .byte-is3 .ensures) ∙ c .before .if3 .taken)) _ (c .magnitude2 .ensures)
+returns-3 c = answered (int-is _ _ (sym (c .before .before .before .before .before .before .byte-is .ensures) ∙ not-false _ (c .before .before .before .before .before .if1 .left)) minus _ (sign-minus _ _ (sym (c .before .before .byte-is3 .ensures) ∙ c .before .if3 .taken)) _ (c .magnitude2 .ensures))
 
 magnitude-requires-3 : tie.Need-magnitude-requires-3
 magnitude-requires-3 c κs = search needs
 
 returns-4 : tie.Need-returns-4
-returns-4 c = int-is _ _ (sym (c .before .before .before .before .before .before .byte-is .ensures) ∙ not-false _ (c .before .before .before .before .before .if1 .left)) unsigned _ (sign-none _ _ (sym (c .before .before .before .before .byte-is2 .ensures) ∙ c .before .before .before .if2 .left) (sym (c .before .before .byte-is3 .ensures) ∙ c .before .if3 .left)) _ (c .magnitude3 .ensures)
+returns-4 c = answered (int-is _ _ (sym (c .before .before .before .before .before .before .byte-is .ensures) ∙ not-false _ (c .before .before .before .before .before .if1 .left)) unsigned _ (sign-none _ _ (sym (c .before .before .before .before .byte-is2 .ensures) ∙ c .before .before .before .if2 .left) (sym (c .before .before .byte-is3 .ensures) ∙ c .before .if3 .left)) _ (c .magnitude3 .ensures))
 
 pub int-spec : {M : Type 1} → statement M
 int-spec =

@@ -1,12 +1,11 @@
 -- `scanner::number::named` meets its contract. Assumes nothing.
-use Prim.Native.Nat.{_-_, _<_}
 use mathlib.Core.Path.{sym, _∙_}
 use native.Mathlib.Omega.{arith}
 use lib.Dec.{lit<}
 use borrow.Author.Tests.{not-true, not-false}
 use Rattle.format.specs.Bytes.{byte}
 use Rattle.scanner.proofs.BytesAt.{byte-there}
-use Rattle.scanner.proofs.Numbers.{found-of, named-colon, named-not, named-open, named-is}
+use Rattle.scanner.proofs.Numbers.{found-of, named-colon, named-not, named-open, named-is, answered}
 use borrow.Author.Needs.{needs}
 use Rattle.scanner.proofs.number.named.Statement.{statement}
 use Rattle.scanner.proofs.number.named.Tie as tie
@@ -15,7 +14,7 @@ byte-is-requires : tie.Need-byte-is-requires
 byte-is-requires c κs = search needs
 
 returns : tie.Need-returns
-returns c = named-colon _ _ (sym (c .before .byte-is .ensures) ∙ not-true _ (c .if1 .taken))
+returns c = answered (named-colon _ _ (sym (c .before .byte-is .ensures) ∙ not-true _ (c .if1 .taken)))
 
 add-digits : tie.Need-add-digits
 add-digits c = omega (arith, byte-there _ _ (byte ":") (lit< tt) (sym (c .before .byte-is .ensures) ∙ not-false _ (c .if1 .left)))
@@ -30,19 +29,19 @@ enum-told : tie.Need-enum-told
 enum-told c = search needs
 
 returns-2 : tie.Need-returns-2
-returns-2 c = named-not _ _ (sym (c .before .before .before .before .byte-is .ensures) ∙ not-false _ (c .before .before .before .if1 .left)) _ _ (c .before .before .digits .ensures) (c .enum-told .given .1)
+returns-2 c = answered (named-not _ _ (sym (c .before .before .before .before .byte-is .ensures) ∙ not-false _ (c .before .before .before .if1 .left)) _ _ (c .before .before .digits .ensures) (c .enum-told .given .1))
 
 byte-is-requires-2 : tie.Need-byte-is-requires-2
 byte-is-requires-2 c κs = search needs
 
 returns-3 : tie.Need-returns-3
-returns-3 c = named-open _ _ (sym (c .before .before .before .before .before .before .before .byte-is .ensures) ∙ not-false _ (c .before .before .before .before .before .before .if1 .left)) _ (found-of (c .before .before .before .before .before .digits .ensures) (c .before .before .before .scan .given .1)) (sym (c .before .byte-is2 .ensures) ∙ not-true _ (c .if2 .taken))
+returns-3 c = answered (named-open _ _ (sym (c .before .before .before .before .before .before .before .byte-is .ensures) ∙ not-false _ (c .before .before .before .before .before .before .if1 .left)) _ (found-of (c .before .before .before .before .before .digits .ensures) (c .before .before .before .scan .given .1)) (sym (c .before .byte-is2 .ensures) ∙ not-true _ (c .if2 .taken)))
 
 add-t8 : tie.Need-add-t8
 add-t8 c = omega (arith, byte-there _ _ (byte ";") (lit< tt) (sym (c .before .byte-is2 .ensures) ∙ not-false _ (c .if2 .left)))
 
 returns-4 : tie.Need-returns-4
-returns-4 c = named-is _ _ (sym (c .before .before .before .before .before .before .before .byte-is .ensures) ∙ not-false _ (c .before .before .before .before .before .before .if1 .left)) _ (found-of (c .before .before .before .before .before .digits .ensures) (c .before .before .before .scan .given .1)) (sym (c .before .byte-is2 .ensures) ∙ not-false _ (c .if2 .left))
+returns-4 c = answered (named-is _ _ (sym (c .before .before .before .before .before .before .before .byte-is .ensures) ∙ not-false _ (c .before .before .before .before .before .before .if1 .left)) _ (found-of (c .before .before .before .before .before .digits .ensures) (c .before .before .before .scan .given .1)) (sym (c .before .byte-is2 .ensures) ∙ not-false _ (c .if2 .left)))
 
 pub named-spec : {M : Type 1} → statement M
 named-spec =
