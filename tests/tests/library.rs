@@ -8,10 +8,10 @@ use tonschnecke_tests::model::WORDS;
 
 #[test]
 fn every_case_has_the_answer_written_by_hand() {
-    for case in cases::all() {
+    cases::hold(|case| {
         let mut table = vec![0; case.capacity * WORDS];
         let reading = library::read(&case.source, &mut table);
-        let answer = match reading.code {
+        match reading.code {
             0 => Expected::Accepted {
                 nodes: reading.nodes,
                 ordinals: reading.ordinals,
@@ -20,14 +20,8 @@ fn every_case_has_the_answer_written_by_hand() {
                 code,
                 at: reading.at,
             },
-        };
-        let shown = case.source.escape_ascii();
-        assert_eq!(
-            answer, case.expected,
-            "{shown} with room for {}",
-            case.capacity
-        );
-    }
+        }
+    });
 }
 
 #[test]

@@ -21,24 +21,16 @@ fn named_by(source: &str, node: usize) -> u64 {
 
 #[test]
 fn every_case_has_the_answer_written_by_hand() {
-    for case in cases::all() {
-        let answer = match model::read(&case.source, case.capacity) {
-            Ok(table) => Expected::Accepted {
-                nodes: table.rows.len() as u64,
-                ordinals: table.ordinals as u64,
-            },
-            Err(refusal) => Expected::Refused {
-                code: refusal.code as u64,
-                at: refusal.at as u64,
-            },
-        };
-        let shown = case.source.escape_ascii();
-        assert_eq!(
-            answer, case.expected,
-            "{shown} with room for {}",
-            case.capacity
-        );
-    }
+    cases::hold(|case| match model::read(&case.source, case.capacity) {
+        Ok(table) => Expected::Accepted {
+            nodes: table.rows.len() as u64,
+            ordinals: table.ordinals as u64,
+        },
+        Err(refusal) => Expected::Refused {
+            code: refusal.code as u64,
+            at: refusal.at as u64,
+        },
+    });
 }
 
 #[test]

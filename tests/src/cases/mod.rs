@@ -27,6 +27,19 @@ pub fn all() -> Vec<Case> {
     [paper::cases(), readings::cases(), order::cases()].concat()
 }
 
+/// Holds a reader to every case. Panics at the first that it answers otherwise.
+pub fn hold(answer: impl Fn(&Case) -> Expected) {
+    for case in all() {
+        let shown = case.source.escape_ascii();
+        assert_eq!(
+            answer(&case),
+            case.expected,
+            "{shown} with room for {}",
+            case.capacity
+        );
+    }
+}
+
 fn refused(source: impl AsRef<[u8]>, code: u64, at: u64) -> Case {
     Case {
         source: source.as_ref().to_vec(),
