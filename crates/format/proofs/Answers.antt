@@ -20,3 +20,8 @@ bind-ok (refused n p) f b e = absurd (not-both e)
 pub require-ok : (t : Bool) (n p : ℕ) (x : Unit {0}) → require t n p ≡ ok x → T t
 require-ok true n p x e = tt
 require-ok false n p x e = absurd (not-both e)
+
+-- what is made of what was made
+pub bind-map : {A B C : Type 0} (a : Answer A) (f : A → B) (g : B → C) → (a >>= λ x. ok (g (f x))) ≡ ((a >>= λ x. ok (f x)) >>= λ y. ok (g y))
+bind-map (ok a) f g = refl
+bind-map (refused c p) f g = refl

@@ -23,6 +23,10 @@ tag object = byte "O"
 tag objectReference = byte "r"
 tag variableReference = byte "R"
 
+-- "plain value (N, b, i, d or s)"
+abbrev pub scalarKinds : List Kind
+scalarKinds = null ∷ bool ∷ int ∷ float ∷ string ∷ []
+
 -- whether a byte is the tag of one of these kinds
 abbrev pub isTagOf : List Kind → ℕ → Bool
 isTagOf [] b = false

@@ -35,10 +35,13 @@ pub record RefusalRow (size code at : ℕ) : Type 0 where
 abbrev pub over : (words table : List ℕ) → List ℕ
 over ws t = ws ++ drop (length ws) t
 
--- "A refusal … makes every word of the table zero"
+-- "makes every word of the table zero"
+abbrev pub cleared : (table : List ℕ) → List ℕ
+cleared t = replicate (length t) 0
+
 abbrev pub filled : Answer Value → (table : List ℕ) → List ℕ
 filled (ok v) t = over (flat (tableOf v)) t
-filled (refused n p) t = replicate (length t) 0
+filled (refused n p) t = cleared t
 
 unfoldable pub tableAfter : (source table : List ℕ) → List ℕ
 tableAfter source t = filled (read (capacityOf t) source) t

@@ -15,18 +15,14 @@ use Rattle.format.specs.Limits.{Seen, seeBranch}
 use Rattle.format.specs.Answer.{Answer, ok, refused, _>>=_, require}
 use Rattle.format.specs.Read.{expect, number, intText, quotedText, boolText, floatText, referenceText, keyText, Setting, isArray, Inner, readPairs, readBranch, readBody}
 use Rattle.format.specs.Table.{Node, single, keyNode, scalarNode, branchNode}
-use Rattle.format.proofs.Answers.{ok-same, not-both, bind-ok}
-use Rattle.scanner.specs.Scans.{countText, namedText}
+use Rattle.format.proofs.Answers.{ok-same, not-both, bind-ok, bind-map}
+use Rattle.scanner.specs.Scans.{countText, namedText, headText, containerTold, scalarText, scalarTold}
 use Rattle.scanner.proofs.BytesAt.{plus-two}
 use Rattle.scanner.proofs.Numbers.{kept}
-use Rattle.reader.specs.Texts.{kindFor, isArrayTag, scalarTag, containerTag, referenceTag, scalarText, scalarTold, keyKind, keyTold, headText, containerTold}
+use Rattle.reader.specs.Texts.{kindFor, isArrayTag, scalarTag, containerTag, referenceTag, keyKind, keyTold}
 use Rattle.reader.specs.Nodes.{nodeOf}
 
 -- ---- answers
-
-pub bind-map : {A B C : Type 0} (a : Answer A) (f : A → B) (g : B → C) → (a >>= λ x. ok (g (f x))) ≡ ((a >>= λ x. ok (f x)) >>= λ y. ok (g y))
-bind-map (ok a) f g = refl
-bind-map (refused c p) f g = refl
 
 bind-assoc : {A B C : Type 0} (a : Answer A) (f : A → Answer B) (g : B → Answer C) → ((a >>= f) >>= g) ≡ (a >>= λ x. f x >>= g)
 bind-assoc (ok a) f g = refl

@@ -18,12 +18,12 @@ use Rattle.format.specs.Table.{Node, words, width, flat, branchNode, pairsOffse
 use Rattle.format.proofs.Inversion.{pairs-count}
 use Rattle.scanner.specs.declared.Text.{Text}
 use Rattle.scanner.specs.declared.Scan.{Scan}
-use Rattle.scanner.specs.Scans.{byteAt, Found, Scans}
+use Rattle.scanner.specs.Scans.{byteAt, Found, Scans, headText, containerTold, headTold}
 use Rattle.scanner.proofs.BytesAt.{byte-there, expect-yes, expect-no}
 use Rattle.scanner.proofs.Numbers.{unfit-of}
 use Rattle.reader.specs.declared.cursor.Cursor.{Cursor}
 use Rattle.reader.specs.declared.cursor.Step.{Step}
-use Rattle.reader.specs.Texts.{isArrayTag, containerTag, headText, containerTold, headTold}
+use Rattle.reader.specs.Texts.{isArrayTag, containerTag}
 use Rattle.reader.specs.Nodes.{nodeOf, Entered}
 use Rattle.reader.specs.Steps.{Points, Takes, TakesIn, Fit, Kept, GoodValue, GoodPairs, Meets, innerAt, bodyAt, pairsAt, refusalOf}
 use Rattle.reader.proofs.Bodies.{pairsOf, body-head, head-array, head-node}

@@ -4,11 +4,10 @@ use native.Mathlib.Omega.{arith}
 use mathlib.Core.Path.{_≡_, ap, _∙_, subst}
 use mathlib.Core.Bool.{Bool, true, false}
 use mathlib.Core.List.{List, [], _∷_}
-use lib.Dec.{eqb, lit<}
 use lib.ListN.{length, drop, length-drop}
 use Rattle.format.specs.Bytes.{byte, bytes}
 use Rattle.format.specs.Kind.{Kind, tag}
-use Rattle.format.specs.Syntax.{array, object, Spelling, Quoted, Container, writeNumber, writeContainer}
+use Rattle.format.specs.Syntax.{Spelling, Quoted, Container, writeNumber, writeContainer}
 use Rattle.format.specs.Answer.{ok}
 use Rattle.format.specs.Read.{expect, number, quotedText}
 use Rattle.format.specs.Table.{pairsOffset}
@@ -17,54 +16,10 @@ use Rattle.format.proofs.Fronts.{number-length, quoted-length}
 use Rattle.format.proofs.Texts.{expect-ok, number-ok, quoted-ok}
 use Rattle.scanner.specs.declared.Text.{Text}
 use Rattle.scanner.specs.declared.Scan.{Scan}
-use Rattle.scanner.specs.Scans.{byteAt, Found, Scans, found, unfit, countText, tell, countTold, quotedTold}
-use Rattle.scanner.proofs.BytesAt.{expect-yes, expect-no}
-use Rattle.scanner.proofs.Numbers.{unfit-part}
-use Rattle.reader.specs.Texts.{isArrayTag, headText, headTold}
+use Rattle.scanner.specs.Scans.{Found, Scans, countText, headText, headTold}
+use Rattle.reader.specs.Texts.{isArrayTag}
 
--- ---- its code
-
-module _ (s : List ℕ) (at : ℕ) where
-  pub array-colon : eqb (byteAt s at) (byte ":") ≡ false → Scans (headText true) (headTold at) s at (Scan.Not 2)
-  unfolding headText
-  array-colon e = unfit 2 (λ l. rw (headText, expect-no l s at (byte ":") [] e))
-
-  behind : (r : Scan) → eqb (byteAt s at) (byte ":") ≡ true → Scans countText countTold s (at + 1) r → Scans (headText true) (headTold at) s at r
-  unfolding headText
-  behind r e (found t f) =
-      found t record {
-        what = (array, f .what);
-        is = λ l. rw (headText, expect-yes l s at (byte ":") [] (lit< tt) e, f .is l);
-        tells = f .tells;
-        on = omega (arith, f .on);
-        inside = f .inside;
-      }
-  behind r e (unfit c f) = unfit c (λ l. rw (headText, expect-yes l s at (byte ":") [] (lit< tt) e, f l))
-
-  pub array-is : (r : Scan) → eqb (byteAt s at) (byte ":") ≡ true → (from : ℕ) → from ≡ at + 1 → Scans countText countTold s from r → Scans (headText true) (headTold at) s at r
-  array-is r e from q h = behind r e (subst (λ (n : ℕ). Scans countText countTold s n r) q h)
-
-  pub object-not : (r : Scan) (c : ℕ) → Scans (λ l. quotedText l (byte "\"" ∷ byte ":" ∷ [])) (quotedTold at) s at r → r ≡ Scan.Not c → Scans (headText false) (headTold at) s at r
-  unfolding headText
-  object-not r c h e = unfit-part h e (λ l q. rw (headText, q))
-
-  module _ (name : Text) (n : Found (λ l. quotedText l (byte "\"" ∷ byte ":" ∷ [])) (quotedTold at) s at name) where
-    pub object-count : (r : Scan) (c : ℕ) → Scans countText countTold s (name .next) r → r ≡ Scan.Not c → Scans (headText false) (headTold at) s at r
-    unfolding headText
-    object-count r c h e = unfit-part h e (λ l q. rw (headText, n .is l, q))
-
-    pub object-is : (pairs : Text) → Found countText countTold s (name .next) pairs → Scans (headText false) (headTold at) s at (Scan.Is (tell (name .content) (name .size) (pairs .link) (pairs .next)))
-    unfolding headText
-    object-is pairs f =
-        found (tell (name .content) (name .size) (pairs .link) (pairs .next)) record {
-          what = (object (n .what), f .what);
-          is = λ l. rw (headText, n .is l, f .is l);
-          tells =
-              ap (λ (u : Text). tell (u .content) (u .size) (pairs .link) (pairs .next)) (n .tells)
-              ∙ ap (λ (u : Text). tell (quotedTold at (n .what) (name .next) .content) (quotedTold at (n .what) (name .next) .size) (u .link) (pairs .next)) (f .tells);
-          on = omega (arith, n .on, f .on);
-          inside = f .inside;
-        }
+-- ---- its tag
 
 pub head-array-is : (s : List ℕ) (at b : ℕ) (r : Scan) → b ≡ tag Kind.array → Scans (headText true) (headTold at) s at r → Scans (headText (isArrayTag b)) (headTold at) s at r
 unfolding isArrayTag

@@ -18,11 +18,11 @@ use Rattle.format.specs.Read.{setting, Inner, readBody, readValue}
 use Rattle.format.specs.Table.{Node, words, width, flat, refNode, taken, table}
 use Rattle.scanner.specs.declared.Text.{Text}
 use Rattle.scanner.specs.declared.Scan.{Scan}
-use Rattle.scanner.specs.Scans.{Found, Scans, namedText, valueTold}
+use Rattle.scanner.specs.Scans.{Found, Scans, namedText, valueTold, scalarText, scalarTold}
 use Rattle.scanner.proofs.Numbers.{unfit-of}
 use Rattle.reader.specs.declared.cursor.Cursor.{Cursor}
 use Rattle.reader.specs.declared.cursor.Step.{Step}
-use Rattle.reader.specs.Texts.{kindFor, scalarTag, referenceTag, scalarText, scalarTold}
+use Rattle.reader.specs.Texts.{kindFor, scalarTag, referenceTag}
 use Rattle.reader.specs.Nodes.{nodeOf, Placed, FirstAt}
 use Rattle.reader.specs.Steps.{Points, Takes, Fit, Kept, GoodValue, Meets, IsOpen, valueAt, bodyAt, innerAt, refusalOf}
 use Rattle.reader.proofs.Tagged.{position-is, tag-end, tag-other, tag-is}

@@ -138,9 +138,5 @@ container-of b o = ⊎-elim (λ q. inr (inl q)) inl o
 pub reference-of : (b : ℕ) → (b ≡ tag Kind.variableReference) ⊎ (b ≡ tag Kind.objectReference) → referenceTag b
 reference-of b o = ⊎-elim (λ q. inr (inl q)) inl o
 
-pub scalar-string : (b : ℕ) → scalarTag b → (b ≡ tag Kind.null → ⊥) → (b ≡ tag Kind.bool → ⊥) → (b ≡ tag Kind.int → ⊥) → (b ≡ tag Kind.float → ⊥) → b ≡ tag Kind.string
-scalar-string b o n₁ n₂ n₃ n₄ =
-    ⊎-elim (λ q. absurd (n₁ q)) (λ o. ⊎-elim (λ q. absurd (n₂ q)) (λ o. ⊎-elim (λ q. absurd (n₃ q)) (λ o. ⊎-elim (λ q. absurd (n₄ q)) (λ o. ⊎-elim (λ q. q) (λ z. absurd z) o) o) o) o) o
-
 pub container-object : (b : ℕ) → containerTag b → (b ≡ tag Kind.array → ⊥) → b ≡ tag Kind.object
 container-object b o n = ⊎-elim (λ q. absurd (n q)) (λ o. ⊎-elim (λ q. q) (λ z. absurd z) o) o

@@ -7,26 +7,11 @@ use crate::table::place;
 use format::kind::Kind;
 use scanner::Scan;
 use scanner::Text;
-ghost use Prim.Native.Nat.{_+_, _<_};
+ghost use Prim.Native.Nat.{_<_};
 ghost use lib.ListN.{length};
 ghost use Rattle.format.specs.Read.{Inner};
-ghost use Rattle.scanner.specs.Scans.{Scans};
-ghost use Rattle.reader.specs.Texts.{kindFor, scalarTag, referenceTag, scalarText, scalarTold};
+ghost use Rattle.reader.specs.Texts.{scalarTag, referenceTag};
 ghost use Rattle.reader.specs.Steps.{Fit, bodyAt, Meets};
-
-// The text of a scalar whose tag stands at an index.
-fn scalar_text(source: &[u8], at: usize, tag: u8) -> Scan
-    requires { ⌜ (at < length (now source)) × scalarTag tag ⌝ }
-    ensures { λ r. ⌜ Scans (scalarText (kindFor tag)) (scalarTold (at + 1)) (now (source .entry)) (at + 1) r ⌝ }
-{
-    match tag {
-        Kind::NULL => scanner::flag::null(source, at + 1),
-        Kind::BOOL => scanner::flag::boolean(source, at + 1),
-        Kind::INT => scanner::number::int(source, at + 1),
-        Kind::FLOAT => scanner::float::float(source, at + 1),
-        _ => scanner::quoted::quoted(source, at + 1, b';'),
-    }
-}
 
 // A scalar: its text, then its node.
 pub(crate) fn read_scalar(
@@ -41,7 +26,7 @@ pub(crate) fn read_scalar(
     ensures { λ r. ⌜ ((inner : Inner) → Meets (now (source .entry)) (now (table .entry)) (now (table .exit)) capacity cursor (bodyAt (now (source .entry)) capacity inner tag cursor) r) ⌝ }
 {
     let at = cursor.at;
-    let scan = scalar_text(source, at, tag);
+    let scan = scanner::scalar::scalar(source, at + 1, tag);
     let Scan::Is(text) = scan else {
         return refused(scan, at);
     };

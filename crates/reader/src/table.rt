@@ -5,7 +5,7 @@ use scanner::Text;
 ghost use mathlib.Core.Path.{_≡_};
 ghost use mathlib.Core.List.{[], _∷_};
 ghost use Prim.Native.Nat.{_+_, _*_, _≤_};
-ghost use lib.ListN.{length, replicate};
+ghost use lib.ListN.{length};
 ghost use lib.Seq.{sets};
 ghost use Rattle.format.specs.Table.{width, words};
 ghost use Rattle.reader.specs.Nodes.{nodeOf, Placed, Entered};
@@ -66,16 +66,5 @@ pub(crate) fn enter(table: &mut [u64], cursor: Cursor, tag: u8, text: Text) -> C
         node: node + 1,
         ordinal,
         levels: cursor.levels - 1,
-    }
-}
-
-// Makes every word zero.
-pub(crate) fn clear(table: &mut [u64])
-    ensures { λ _. ⌜ now (table .exit) ≡ replicate (length (now (table .entry))) 0 ⌝ }
-{
-    let mut i = 0;
-    while i < table.len() {
-        table[i] = 0;
-        i += 1;
     }
 }

@@ -3,3 +3,5 @@ pub mod Numbers
 pub mod Flags
 pub mod Quotes
 pub mod Floats
+pub mod Heads
+pub mod Scalars

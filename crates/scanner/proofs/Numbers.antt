@@ -76,6 +76,11 @@ scans-map {s = s} {at} f e g (found t h) =
     found t record { what = f (h .what); is = λ l. e l (drop at s) ∙ rw (h .is l); tells = h .tells ∙ g (h .what) (t .next); on = h .on; inside = h .inside }
 scans-map {s = s} {at} f e g (unfit c h) = unfit c (λ l. e l (drop at s) ∙ rw (h l))
 
+-- a text that reads alike answers alike
+pub scans-same : {A : Type 0} {read same : Reader A} {told : Told A} {s : List ℕ} {at : ℕ} {r : Scan} → ((l : ℕ) (s : List ℕ) → same l s ≡ read l s) → Scans read told s at r → Scans same told s at r
+scans-same {s = s} {at} e (found t h) = found t record { what = h .what; is = λ l. e l (drop at s) ∙ h .is l; tells = h .tells; on = h .on; inside = h .inside }
+scans-same {s = s} {at} e (unfit c h) = unfit c (λ l. e l (drop at s) ∙ h l)
+
 -- what was read, and what is left
 abbrev pub kept : {A : Type 0} → A → List ℕ → Answer (A × List ℕ)
 kept a s = ok (a, s)

@@ -1,15 +1,16 @@
 -- What the public scans promise: the definition's answer from their index on, and what the text tells its node.
 use mathlib.Core.Path.{_≡_}
 use mathlib.Core.List.{List, []}
-use mathlib.Core.Bool.{Bool}
+use mathlib.Core.Bool.{Bool, true, false}
 use Prim.Native.Nat.{ℕ, _+_, _-_, _≤_, _<_}
 use lib.ListN.{length, getD, drop}
 use Rattle.format.specs.Bytes.{bytes}
 use Rattle.format.specs.Tree.{one}
-use Rattle.format.specs.Syntax.{Spelling, Literal, Quoted, writeNumber}
+use Rattle.format.specs.Kind.{Kind, scalarKinds}
+use Rattle.format.specs.Syntax.{null, bool, int, float, string, Scalar, array, object, Spelling, Literal, Quoted, Container, writeNumber}
 use Rattle.format.specs.Keys.{integer}
 use Rattle.format.specs.Answer.{Answer, ok, refused, _>>=_}
-use Rattle.format.specs.Read.{expect, number}
+use Rattle.format.specs.Read.{kindOf, expect, number, intText, quotedText, boolText, floatText}
 use Rattle.format.specs.Table.{word}
 use Rattle.scanner.specs.declared.Text.{Text}
 use Rattle.scanner.specs.declared.Scan.{Scan}
@@ -75,6 +76,33 @@ namedText l s = do
   s₃ ← expect l (bytes ";") s₂
   ok (n, s₃)
 
+-- what follows the tag of a scalar of this kind; other kinds are none
+unfoldable pub scalarText : Kind → Reader Scalar
+scalarText Kind.null l s = expect l (bytes ";") s >>= λ s₁. ok (null, s₁)
+scalarText Kind.bool l s = boolText l s >>= λ (b, s₁). ok (bool b, s₁)
+scalarText Kind.int l s = intText l s >>= λ (x, s₁). ok (int x, s₁)
+scalarText Kind.float l s = floatText l s >>= λ (t, s₁). ok (float t, s₁)
+scalarText Kind.string l s = quotedText l (bytes "\";") s >>= λ (q, s₁). ok (string q, s₁)
+scalarText Kind.array l s = refused 3 l
+scalarText Kind.object l s = refused 3 l
+scalarText Kind.objectReference l s = refused 3 l
+scalarText Kind.variableReference l s = refused 3 l
+
+-- what follows a tag, if it is a scalar's
+unfoldable pub scalarBehind : (tag : ℕ) → Reader Scalar
+scalarBehind b l s = kindOf scalarKinds 3 l b >>= λ k. scalarText k l s
+
+-- what follows a container's tag, up to its first pair: the container and its count
+unfoldable pub headText : (ofArray : Bool) → Reader (Container × (Spelling × ℕ))
+headText true l s = do
+  s₁ ← expect l (bytes ":") s
+  (n, s₂) ← countText l s₁
+  ok ((array, n), s₂)
+headText false l s = do
+  (q, s₁) ← quotedText l (bytes "\":") s
+  (n, s₂) ← countText l s₁
+  ok ((object q, n), s₂)
+
 -- ---- what they tell: words 2, 3 and 4
 
 abbrev pub tell : (content size link next : ℕ) → Text
@@ -101,3 +129,18 @@ floatTold at t next = tell (at + 1) (length t) 0 next
 
 abbrev pub quotedTold : (at : ℕ) → Told Quoted
 quotedTold at q next = tell (at + 3 + length (writeNumber (q .spelling) (length (q .text)) [])) (length (q .text)) 0 next
+
+abbrev pub scalarTold : (at : ℕ) → Told Scalar
+scalarTold at null next = tell 0 0 0 next
+scalarTold at (bool b) next = boolTold b next
+scalarTold at (int x) next = literalTold x next
+scalarTold at (float t) next = floatTold at t next
+scalarTold at (string q) next = quotedTold at q next
+
+-- a class name tells its offset and length as a string does
+abbrev pub containerTold : (at : ℕ) → Container → (link next : ℕ) → Text
+containerTold at array link next = tell 0 0 link next
+containerTold at (object q) link next = tell (quotedTold at q next .content) (length (q .text)) link next
+
+abbrev pub headTold : (at : ℕ) → Told (Container × (Spelling × ℕ))
+headTold at h next = containerTold at (h .0) (h .1 .1) next

@@ -2,8 +2,10 @@
 pub mod bytes;
 pub mod flag;
 pub mod float;
+pub mod head;
 pub mod number;
 pub mod quoted;
+pub mod scalar;
 
 // What a text tells: words 2, 3 and 4 of the node, and the index after the text.
 pub struct Text {

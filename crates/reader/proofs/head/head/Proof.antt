@@ -5,17 +5,24 @@ use borrow.Author.Needs.{needs}
 use Rattle.reader.proofs.head.head.Statement.{statement}
 use Rattle.reader.proofs.head.head.Tie as tie
 
-array-head-requires : tie.Need-array-head-requires
-array-head-requires c κs = search needs
+add-array : tie.Need-add-array
+add-array c = search needs
 
-object-head-requires : tie.Need-object-head-requires
-object-head-requires c κs = search needs
+array-requires : tie.Need-array-requires
+array-requires c κs = search needs
+
+add-object : tie.Need-add-object
+add-object c = search needs
+
+object-requires : tie.Need-object-requires
+object-requires c κs = search needs
 
 returns : tie.Need-returns
-returns c = heads.head-array-is _ _ _ _ (c .before .match .keys1) (c .array-head .ensures)
+returns c = heads.head-array-is _ _ _ _ (c .before .match .keys1) (c .array .ensures .scans)
 
 returns-2 : tie.Need-returns-2
-returns-2 c = heads.head-object-is _ _ _ _ (tagged.container-object _ (c .before .before .before .pre .1) (c .before .match .rest .1)) (c .object-head .ensures)
+returns-2 c = heads.head-object-is _ _ _ _ (tagged.container-object _ (c .before .before .before .pre .1) (c .before .match .rest .1)) (c .object .ensures .scans)
 
 pub head-spec : {M : Type 1} → statement M
-head-spec = tie.close (tie.spec array-head-requires object-head-requires returns returns-2)
+head-spec =
+    tie.close (tie.spec add-array array-requires add-object object-requires returns returns-2)

@@ -1,12 +1,16 @@
 -- `reader::leaf::read_scalar` meets its contract. Assumes nothing.
-use borrow.Author.Needs.{needs}
 use Rattle.scanner.proofs.Numbers.{found-of}
+use Rattle.reader.proofs.ScalarTexts.{scalar-behind}
 use Rattle.reader.proofs.Leaves as leaves
+use borrow.Author.Needs.{needs}
 use Rattle.reader.proofs.leaf.read_scalar.Statement.{statement}
 use Rattle.reader.proofs.leaf.read_scalar.Tie as tie
 
-scalar-text-requires : tie.Need-scalar-text-requires
-scalar-text-requires c κs = search needs
+add-scalar : tie.Need-add-scalar
+add-scalar c = search needs
+
+scalar-requires : tie.Need-scalar-requires
+scalar-requires c κs = search needs
 
 enum-known-scan : tie.Need-enum-known-scan
 enum-known-scan c = search needs
@@ -18,7 +22,7 @@ refused-requires : tie.Need-refused-requires
 refused-requires c κs = search needs
 
 returns : tie.Need-returns
-returns c = λ inner. leaves.scalar-not _ _ _ _ (c .before .before .before .before .before .before .pre .1 .2) inner (c .before .before .before .before .before .before .args .table .now) (c .before .before .before .before .before .before .args .table .now) _ _ _ (c .before .before .before .scalar-text .ensures) (c .before .enum-told .given .1) (c .refused .ensures)
+returns c = λ inner. leaves.scalar-not _ _ _ _ (c .before .before .before .before .before .before .pre .1 .2) inner (c .before .before .before .before .before .before .args .table .now) (c .before .before .before .before .before .before .args .table .now) _ _ _ (scalar-behind (c .before .before .before .before .before .before .pre .1 .2) (c .before .before .before .scalar .ensures .scans)) (c .before .enum-told .given .1) (c .refused .ensures)
 
 place-requires : tie.Need-place-requires
 place-requires c κs = search needs
@@ -27,13 +31,14 @@ same-length : tie.Need-same-length
 same-length c = search needs
 
 returns-2 : tie.Need-returns-2
-returns-2 c = λ inner. leaves.scalar-good _ _ _ _ (c .before .before .before .before .before .before .before .before .before .before .pre .1 .2) inner _ _ _ _ (c .before .before .before .before .before .before .before .before .before .before .pre .0) (c .before .before .before .before .before .before .before .before .before .before .pre .1 .1) (found-of (c .before .before .before .before .before .before .before .scalar-text .ensures) (c .before .before .before .before .before .scan .given .1)) (c .before .before .place .ensures)
+returns-2 c = λ inner. leaves.scalar-good _ _ _ _ (c .before .before .before .before .before .before .before .before .before .before .pre .1 .2) inner _ _ _ _ (c .before .before .before .before .before .before .before .before .before .before .pre .0) (c .before .before .before .before .before .before .before .before .before .before .pre .1 .1) (found-of (scalar-behind (c .before .before .before .before .before .before .before .before .before .before .pre .1 .2) (c .before .before .before .before .before .before .before .scalar .ensures .scans)) (c .before .before .before .before .before .scan .given .1)) (c .before .before .place .ensures)
 
 pub read-scalar-spec : {M : Type 1} → statement M
 read-scalar-spec =
     tie.close
     (tie.spec
-    scalar-text-requires
+    add-scalar
+    scalar-requires
     enum-known-scan
     enum-told
     refused-requires

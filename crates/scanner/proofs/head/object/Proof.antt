@@ -1,0 +1,47 @@
+-- `scanner::head::object` meets its contract. Assumes nothing.
+use Rattle.scanner.proofs.Numbers.{found-of, answered}
+use Rattle.scanner.proofs.Heads as heads
+use borrow.Author.Needs.{needs}
+use Rattle.scanner.proofs.head.object.Statement.{statement}
+use Rattle.scanner.proofs.head.object.Tie as tie
+
+quoted-requires : tie.Need-quoted-requires
+quoted-requires c κs = search needs
+
+enum-known-named : tie.Need-enum-known-named
+enum-known-named c = search needs
+
+enum-told : tie.Need-enum-told
+enum-told c = search needs
+
+returns : tie.Need-returns
+returns c = answered (heads.object-not _ _ _ _ (c .before .before .quoted .ensures .scans) (c .enum-told .given .1))
+
+count-requires : tie.Need-count-requires
+count-requires c κs = search needs
+
+enum-known-counted : tie.Need-enum-known-counted
+enum-known-counted c = search needs
+
+enum-told-2 : tie.Need-enum-told-2
+enum-told-2 c = search needs
+
+returns-2 : tie.Need-returns-2
+returns-2 c = answered (heads.object-count _ _ _ (found-of (c .before .before .before .before .before .before .quoted .ensures .scans) (c .before .before .before .before .named .given .1)) _ _ (c .before .before .count .ensures .scans) (c .enum-told2 .given .1))
+
+returns-3 : tie.Need-returns-3
+returns-3 c = answered (heads.object-is _ _ _ (found-of (c .before .before .before .before .before .before .before .quoted .ensures .scans) (c .before .before .before .before .before .named .given .1)) _ (found-of (c .before .before .before .count .ensures .scans) (c .before .counted .given .1)))
+
+pub object-spec : {M : Type 1} → statement M
+object-spec =
+    tie.close
+    (tie.spec
+    quoted-requires
+    enum-known-named
+    enum-told
+    returns
+    count-requires
+    enum-known-counted
+    enum-told-2
+    returns-2
+    returns-3)
