@@ -52,7 +52,7 @@ pub fn run_at(source: &[u8], at: usize, cap: u64) -> Run
 }
 
 // One byte stored at base + offset, where that is inside.
-fn put(out: &mut [u8], base: usize, offset: usize, b: u8)
+pub fn put(out: &mut [u8], base: usize, offset: usize, b: u8)
     ensures { λ r. ⌜ now (out .exit) ≡ set (now (out .entry)) (base + offset) b ⌝ }
 {
     if base < out.len() {

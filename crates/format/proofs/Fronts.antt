@@ -14,7 +14,7 @@ use Rattle.format.specs.Syntax.{intKey, stringKey, null, bool, int, floa
 pub number-front : (w : Spelling) (n : ℕ) (r s : List ℕ) → writeNumber w n (r ++ s) ≡ writeNumber w n r ++ s
 number-front w n r s = sym (append-assoc (spelled (w .zeros) n) r s)
 
-sign-front : (k : Sign) (r s : List ℕ) → writeSign k (r ++ s) ≡ writeSign k r ++ s
+pub sign-front : (k : Sign) (r s : List ℕ) → writeSign k (r ++ s) ≡ writeSign k r ++ s
 sign-front unsigned r s = refl
 sign-front plus r s = refl
 sign-front minus r s = refl

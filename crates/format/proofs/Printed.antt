@@ -37,7 +37,7 @@ digits-printed l top z n c r h e =
       zeros,
     )
 
-number-printed : (l : ℕ) (w : Spelling) (n c : ℕ) (r : List ℕ) → n ≤ numberLimit → isDigit c ≡ false → number l (writeNumber w n (c ∷ r)) ≡ ok ((w, n), c ∷ r)
+pub number-printed : (l : ℕ) (w : Spelling) (n c : ℕ) (r : List ℕ) → n ≤ numberLimit → isDigit c ≡ false → number l (writeNumber w n (c ∷ r)) ≡ ok ((w, n), c ∷ r)
 unfolding number
 number-printed l w n c r h e = rw (digits-printed l numberLimit (w .zeros) n c r h e)
 
@@ -52,13 +52,13 @@ sign-printed unsigned z n r = sign-digits (spelled z n) r (spelled-some z n) (sp
 sign-printed plus z n r = refl
 sign-printed minus z n r = refl
 
-int-printed : (l : ℕ) (x : Literal) (r : List ℕ) → IntFits x → intText l (byte ":" ∷ writeSign (x .sign) (spelled (x .zeros) (x .magnitude) ++ (byte ";" ∷ r))) ≡ ok (x, r)
+pub int-printed : (l : ℕ) (x : Literal) (r : List ℕ) → IntFits x → intText l (byte ":" ∷ writeSign (x .sign) (spelled (x .zeros) (x .magnitude) ++ (byte ";" ∷ r))) ≡ ok (x, r)
 unfolding intText
 int-printed l x r h =
     rw (sign-printed (x .sign) (x .zeros) (x .magnitude) (byte ";" ∷ r), digits-printed l (integerLimit (x .sign)) (x .zeros) (x .magnitude) (byte ";") r h refl)
 
 -- closed by `"` and one byte more
-quoted-printed : (l c : ℕ) (q : Quoted) (r : List ℕ) → QuotedFits q → quotedText l (byte "\"" ∷ c ∷ []) (byte ":" ∷ writeQuoted q (c ∷ r)) ≡ ok (q, r)
+pub quoted-printed : (l c : ℕ) (q : Quoted) (r : List ℕ) → QuotedFits q → quotedText l (byte "\"" ∷ c ∷ []) (byte ":" ∷ writeQuoted q (c ∷ r)) ≡ ok (q, r)
 unfolding quotedText
 quoted-printed l c q r h =
     let t : List ℕ = q .text in
@@ -71,7 +71,7 @@ quoted-printed l c q r h =
       expect,
     )
 
-float-printed : (l : ℕ) (t r : List ℕ) → T (isFloat t) → floatText l (byte ":" ∷ t ++ (byte ";" ∷ r)) ≡ ok (t, r)
+pub float-printed : (l : ℕ) (t r : List ℕ) → T (isFloat t) → floatText l (byte ":" ∷ t ++ (byte ";" ∷ r)) ≡ ok (t, r)
 unfolding floatText
 float-printed l t r h = rw (until-semicolon t r (float-semicolon t h), T-true (isFloat t) h, drop-append-seam t (byte ";" ∷ r))
 

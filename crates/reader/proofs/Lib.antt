@@ -11,4 +11,4 @@ pub mod ContainerSteps
 pub mod WholeSteps
 pub mod ScalarTexts
 pub mod Placing
-pub mod Counted
+pub mod Promised

@@ -5,3 +5,4 @@ pub mod Quotes
 pub mod Floats
 pub mod Heads
 pub mod Scalars
+pub mod Printed

@@ -1,7 +1,7 @@
 -- `nodes::print_reading` meets its contract. Assumes nothing.
 use mathlib.Core.Path.{subst}
 use Rattle.reader.specs.Promise.{Reads}
-use Rattle.reader.proofs.Counted.{counted}
+use Rattle.reader.proofs.Promised.{counted}
 use borrow.Author.Needs.{needs}
 use Rattle.nodes.proofs.print_reading.Statement.{statement}
 use Rattle.nodes.proofs.print_reading.Tie as tie

@@ -1,0 +1,66 @@
+-- `editor::canonical::write_canonical` meets its contract. Assumes nothing.
+use borrow.Author.Needs.{needs}
+use native.Mathlib.Omega.{arith}
+use Prim.Native.Nat.{_-_}
+use lib.ListN.{length}
+use Rattle.scanner.proofs.Numbers.{found-of}
+use Rattle.editor.proofs.Rewritten as rewritten
+use Rattle.editor.proofs.canonical.write_canonical.Statement.{statement}
+use Rattle.editor.proofs.canonical.write_canonical.Tie as tie
+
+abbrev Inv-loop : tie.InvT-loop
+Inv-loop source out₀ at₀ w₀ out at w = rewritten.Rewritten source out₀ at w out
+
+abbrev μ-loop : tie.MeasureT-loop
+μ-loop source out₀ at₀ w₀ out at w = length source - at
+
+loop-holds : tie.Need-loop-holds Inv-loop μ-loop
+loop-holds c = rewritten.rewritten-none _ _ (c .before .before .pre)
+
+token-requires : tie.Need-token-requires Inv-loop μ-loop
+token-requires c κs = search needs
+
+enum-known-scan : tie.Need-enum-known-scan Inv-loop μ-loop
+enum-known-scan c = search needs
+
+enum-told : tie.Need-enum-told Inv-loop μ-loop
+enum-told c = search needs
+
+same-length : tie.Need-same-length Inv-loop μ-loop
+same-length c = c .before .before .before .before .loop .inv .same
+
+returns : tie.Need-returns Inv-loop μ-loop
+returns c = absurd (rewritten.fit-token (c .before .before .before .before .loop .inv) (c .before .before .before .loop-test .taken) _ _ (c .before .before .token .ensures) (c .enum-told .given .1))
+
+shortest-requires : tie.Need-shortest-requires Inv-loop μ-loop
+shortest-requires c κs = (rewritten.bounds-next (c .before .before .before .before .before .before .loop .inv) (c .before .before .before .before .before .loop-test .taken) _ (found-of (c .before .before .before .before .token .ensures) (c .before .before .scan .given .1)), omega (arith, rewritten.low (c .before .before .before .before .before .before .loop .inv)))
+
+loop-less : tie.Need-loop-less Inv-loop μ-loop
+loop-less c = omega (arith, (found-of (c .before .before .before .before .before .before .before .token .ensures) (c .before .before .before .before .before .scan .given .1)) .on, c .before .before .before .before .before .before .before .before .loop-test .taken)
+
+loop-again : tie.Need-loop-again Inv-loop μ-loop
+loop-again c = rewritten.rewritten-more (c .before .before .before .before .before .before .before .before .before .loop .inv) (c .before .before .before .before .before .before .before .before .loop-test .taken) _ (found-of (c .before .before .before .before .before .before .before .token .ensures) (c .before .before .before .before .before .scan .given .1)) _ _ (c .before .before .shortest .ensures) (c .before .before .shortest .kept .1 .1 .1 .0)
+
+same-length-2 : tie.Need-same-length-2 Inv-loop μ-loop
+same-length-2 c = c .before .loop .inv .same
+
+returns-2 : tie.Need-returns-2 Inv-loop μ-loop
+returns-2 c = rewritten.rewritten-all (c .before .loop .inv) (c .loop-test .left)
+
+pub write-canonical-spec : {M : Type 1} → statement M
+write-canonical-spec =
+    tie.close
+    (tie.spec
+    Inv-loop
+    μ-loop
+    loop-holds
+    token-requires
+    enum-known-scan
+    enum-told
+    same-length
+    returns
+    shortest-requires
+    loop-less
+    loop-again
+    same-length-2
+    returns-2)

@@ -1,0 +1,64 @@
+-- `editor::retype` meets its contract. Assumes nothing.
+use mathlib.Core.Path.{sym, _∙_}
+use Rattle.format.specs.Syntax.{print}
+use Rattle.format.specs.Canonical.{canonical}
+use lib.Seq.{length-take-le}
+use mathlib.Core.Path.{sym, _∙_}
+use borrow.Author.Tests.{not-true, not-false}
+use Rattle.editor.proofs.Ended as ended
+use borrow.Author.Needs.{needs}
+use Rattle.editor.proofs.retype.Statement.{statement}
+use Rattle.editor.proofs.retype.Tie as tie
+
+measure-requires : tie.Need-measure-requires
+measure-requires c κs = search needs
+
+has-room-requires : tie.Need-has-room-requires
+has-room-requires c κs = search needs
+
+clear-requires : tie.Need-clear-requires
+clear-requires c κs = search needs
+
+same-length : tie.Need-same-length
+same-length c = search needs
+
+returns : tie.Need-returns
+returns c = λ v i. ended.ends-refused (print (canonical v)) (c .before .before .before .before .before .before .before .before .before .before .args .table .now) (c .before .before .before .before .before .before .before .before .before .before .args .out .now) _ ((c .before .before .before .before .before .before .measure .ensures) v i) _ (sym (c .before .before .before .before .before .has-room .ensures) ∙ not-true _ (c .before .before .before .before .if1 .taken)) (c .before .before .clear .ensures)
+
+write-canonical-requires : tie.Need-write-canonical-requires
+write-canonical-requires c κs = search needs
+
+slice-reshare-prefix-read : tie.Need-slice-reshare-prefix-read
+slice-reshare-prefix-read c = ended.prefix-inside _ (c .before .before .before .before .before .before .before .before .before .before .args .table .now) _ _ ((c .before .before .before .before .before .before .measure .ensures) (c .before .before .before .before .before .before .before .before .before .before .pre .value) (c .before .before .before .before .before .before .before .before .before .before .pre .is)) (sym (c .before .before .before .before .before .has-room .ensures) ∙ not-false _ (c .before .before .before .before .if1 .left)) _ _ ((c .before .before .write-canonical .ensures) (c .before .before .before .before .before .before .before .before .before .before .pre .value) (c .before .before .before .before .before .before .before .before .before .before .pre .is))
+
+slice-aggregate-read : tie.Need-slice-aggregate-read
+slice-aggregate-read c = sym (length-take-le _ _ (ended.prefix-inside _ (c .before .before .before .before .before .before .before .before .before .before .before .args .table .now) _ _ ((c .before .before .before .before .before .before .before .measure .ensures) (c .before .before .before .before .before .before .before .before .before .before .before .pre .value) (c .before .before .before .before .before .before .before .before .before .before .before .pre .is)) (sym (c .before .before .before .before .before .before .has-room .ensures) ∙ not-false _ (c .before .before .before .before .before .if1 .left)) _ _ ((c .before .before .before .write-canonical .ensures) (c .before .before .before .before .before .before .before .before .before .before .before .pre .value) (c .before .before .before .before .before .before .before .before .before .before .before .pre .is))))
+
+read-requires : tie.Need-read-requires
+read-requires c κs = search needs
+
+same-length-2 : tie.Need-same-length-2
+same-length-2 c = search needs
+
+same-length-3 : tie.Need-same-length-3
+same-length-3 c = search needs
+
+returns-2 : tie.Need-returns-2
+returns-2 c = λ v i. ended.ends-written _ _ _ _ ((c .before .before .before .before .before .before .before .before .before .before .before .measure .ensures) v i) (sym (c .before .before .before .before .before .before .before .before .before .before .has-room .ensures) ∙ not-false _ (c .before .before .before .before .before .before .before .before .before .if1 .left)) _ _ ((c .before .before .before .before .before .before .before .write-canonical .ensures) v i) _ (c .before .before .read .ensures .table)
+
+pub retype-spec : {M : Type 1} → statement M
+retype-spec =
+    tie.close
+    (tie.spec
+    measure-requires
+    has-room-requires
+    clear-requires
+    same-length
+    returns
+    write-canonical-requires
+    slice-reshare-prefix-read
+    slice-aggregate-read
+    read-requires
+    same-length-2
+    same-length-3
+    returns-2)

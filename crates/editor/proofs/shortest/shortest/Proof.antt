@@ -1,0 +1,118 @@
+-- `editor::shortest::shortest` meets its contract. Assumes nothing.
+use native.Mathlib.Omega.{arith}
+use mathlib.Core.Path.{refl}
+use Rattle.editor.proofs.Outputs.{puts-then}
+use Rattle.editor.proofs.Spelled as spelled
+use Rattle.editor.proofs.Spelled.{more-of}
+use borrow.Author.Needs.{needs}
+use Rattle.editor.proofs.shortest.shortest.Statement.{statement}
+use Rattle.editor.proofs.shortest.shortest.Tie as tie
+
+shared-slice-read-tag : tie.Need-shared-slice-read-tag
+shared-slice-read-tag c = omega (arith, c .before .before .before .pre .0 .on, c .before .before .before .pre .0 .inside)
+
+add-copy : tie.Need-add-copy
+add-copy c = omega (arith, c .before .before .before .before .pre .0 .small, c .before .before .before .before .pre .0 .on, c .before .before .before .before .pre .0 .inside, c .before .before .before .before .pre .0 .more (λ e. omega (arith, e, c .match .keys1)), c .before .before .before .before .pre .1)
+
+copy-requires : tie.Need-copy-requires
+copy-requires c κs = omega (arith, c .before .before .before .before .before .pre .0 .small, c .before .before .before .before .before .pre .0 .on, c .before .before .before .before .before .pre .0 .inside, c .before .before .before .before .before .pre .0 .more (λ e. omega (arith, e, c .before .match .keys1)), c .before .before .before .before .before .pre .1)
+
+integer-requires : tie.Need-integer-requires
+integer-requires c κs = omega (arith, c .before .before .before .before .before .before .before .before .before .pre .0 .small, c .before .before .before .before .before .before .before .before .before .pre .0 .on, c .before .before .before .before .before .before .before .before .before .pre .0 .inside, c .before .before .before .before .before .before .before .before .before .pre .0 .more (λ e. omega (arith, e, c .before .before .before .before .before .match .keys1)), c .before .before .before .before .before .before .before .before .before .pre .1, c .before .before .before .copy .ensures .1)
+
+sub-copy : tie.Need-sub-copy
+sub-copy c = omega (arith, c .before .before .before .before .before .before .before .before .before .before .before .before .pre .0 .small, c .before .before .before .before .before .before .before .before .before .before .before .before .pre .0 .on, c .before .before .before .before .before .before .before .before .before .before .before .before .pre .0 .inside, c .before .before .before .before .before .before .before .before .before .before .before .before .pre .0 .more (λ e. omega (arith, e, c .before .before .before .before .before .before .before .before .match .keys1)), c .before .before .before .before .before .before .before .before .before .before .before .before .pre .1)
+
+copy-requires-2 : tie.Need-copy-requires-2
+copy-requires-2 c κs = omega (arith, c .before .before .before .before .before .before .before .before .before .before .before .before .before .pre .0 .small, c .before .before .before .before .before .before .before .before .before .before .before .before .before .pre .0 .on, c .before .before .before .before .before .before .before .before .before .before .before .before .before .pre .0 .inside, c .before .before .before .before .before .before .before .before .before .before .before .before .before .pre .0 .more (λ e. omega (arith, e, c .before .before .before .before .before .before .before .before .before .match .keys1)), c .before .before .before .before .before .before .before .before .before .before .before .before .before .pre .1, c .before .before .before .before .before .before .before .copy .ensures .1, c .before .before .before .integer .ensures .1)
+
+sub-numbered : tie.Need-sub-numbered
+sub-numbered c = omega (arith, c .before .before .before .before .pre .0 .string (c .match .keys2) .from, c .before .before .before .before .pre .0 .string (c .match .keys2) .to)
+
+numbered-requires : tie.Need-numbered-requires
+numbered-requires c κs = omega (arith, c .before .before .before .before .before .pre .0 .small, c .before .before .before .before .before .pre .0 .on, c .before .before .before .before .before .pre .0 .inside, c .before .before .before .before .before .pre .0 .more (λ e. omega (arith, e, c .before .match .keys2)), c .before .before .before .before .before .pre .1, c .before .before .before .before .before .pre .0 .string (c .before .match .keys2) .from, c .before .before .before .before .before .pre .0 .string (c .before .match .keys2) .to)
+
+sub-numbered-2 : tie.Need-sub-numbered-2
+sub-numbered-2 c = omega (arith, c .before .before .before .before .pre .0 .small, c .before .before .before .before .pre .0 .on, c .before .before .before .before .pre .0 .inside, c .before .before .before .before .pre .0 .more (λ e. omega (arith, e, c .match .keys3)), c .before .before .before .before .pre .1)
+
+numbered-requires-2 : tie.Need-numbered-requires-2
+numbered-requires-2 c κs = omega (arith, c .before .before .before .before .before .pre .0 .small, c .before .before .before .before .before .pre .0 .on, c .before .before .before .before .before .pre .0 .inside, c .before .before .before .before .before .pre .0 .more (λ e. omega (arith, e, c .before .match .keys3)), c .before .before .before .before .before .pre .1)
+
+object-head-requires : tie.Need-object-head-requires
+object-head-requires c κs = (c .before .before .before .before .before .pre .0, c .before .before .before .before .before .pre .0 .object (c .before .match .keys4), c .before .before .before .before .before .pre .1)
+
+sub-numbered-3 : tie.Need-sub-numbered-3
+sub-numbered-3 c = omega (arith, c .before .before .before .before .pre .0 .small, c .before .before .before .before .pre .0 .on, c .before .before .before .before .pre .0 .inside, more-of (c .before .before .before .before .pre .0) (c .match .keys5), c .before .before .before .before .pre .1)
+
+numbered-requires-3 : tie.Need-numbered-requires-3
+numbered-requires-3 c κs = omega (arith, c .before .before .before .before .before .pre .0 .small, c .before .before .before .before .before .pre .0 .on, c .before .before .before .before .before .pre .0 .inside, more-of (c .before .before .before .before .before .pre .0) (c .before .match .keys5), c .before .before .before .before .before .pre .1)
+
+copy-requires-3 : tie.Need-copy-requires-3
+copy-requires-3 c κs = omega (arith, c .before .before .before .before .before .pre .0 .small, c .before .before .before .before .before .pre .0 .on, c .before .before .before .before .before .pre .0 .inside, c .before .before .before .before .before .pre .1)
+
+same-length : tie.Need-same-length
+same-length c = search needs
+
+returns : tie.Need-returns
+returns c = spelled.spelled-int _ _ _ _ _ _ _ _ refl (c .before .before .before .before .before .before .before .before .before .before .before .before .match .keys1) (puts-then (c .before .before .before .before .before .before .before .before .before .before .copy .ensures .0) (puts-then (c .before .before .before .before .before .before .integer .ensures .0) (c .before .before .copy2 .ensures .0)))
+
+same-length-2 : tie.Need-same-length-2
+same-length-2 c = search needs
+
+returns-2 : tie.Need-returns-2
+returns-2 c = spelled.spelled-string _ _ _ _ _ _ _ _ refl (c .before .before .before .before .match .keys2) (c .before .before .numbered .ensures .0)
+
+same-length-3 : tie.Need-same-length-3
+same-length-3 c = search needs
+
+returns-3 : tie.Need-returns-3
+returns-3 c = spelled.spelled-array _ _ _ _ _ _ _ _ refl (c .before .before .before .before .match .keys3) (c .before .before .numbered2 .ensures .0)
+
+same-length-4 : tie.Need-same-length-4
+same-length-4 c = search needs
+
+returns-4 : tie.Need-returns-4
+returns-4 c = spelled.spelled-object _ _ _ _ _ _ _ _ refl (c .before .before .before .before .match .keys4) (c .before .before .object-head .ensures)
+
+same-length-5 : tie.Need-same-length-5
+same-length-5 c = search needs
+
+returns-5 : tie.Need-returns-5
+returns-5 c = spelled.spelled-reference _ _ _ _ _ _ _ _ refl (c .before .before .before .before .match .keys5) (c .before .before .numbered3 .ensures .0)
+
+same-length-6 : tie.Need-same-length-6
+same-length-6 c = search needs
+
+returns-6 : tie.Need-returns-6
+returns-6 c = spelled.spelled-copied _ _ _ _ _ _ _ _ refl (c .before .before .before .before .match .rest .0 .0 .0 .0 .1) (c .before .before .before .before .match .rest .0 .0 .0 .1) (c .before .before .before .before .match .rest .0 .0 .1) (c .before .before .before .before .match .rest .0 .1) (c .before .before .before .before .match .rest .1) (c .before .before .copy3 .ensures .0)
+
+pub shortest-spec : {M : Type 1} → statement M
+shortest-spec =
+    tie.close
+    (tie.spec
+    shared-slice-read-tag
+    add-copy
+    copy-requires
+    integer-requires
+    sub-copy
+    copy-requires-2
+    sub-numbered
+    numbered-requires
+    sub-numbered-2
+    numbered-requires-2
+    object-head-requires
+    sub-numbered-3
+    numbered-requires-3
+    copy-requires-3
+    same-length
+    returns
+    same-length-2
+    returns-2
+    same-length-3
+    returns-3
+    same-length-4
+    returns-4
+    same-length-5
+    returns-5
+    same-length-6
+    returns-6)

@@ -1,0 +1,5 @@
+pub mod Promise
+pub mod Output
+pub mod Tokens
+pub mod Shortest
+pub mod Rewriting

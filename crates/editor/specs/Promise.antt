@@ -1,0 +1,54 @@
+-- WHAT THE SERVICES THAT WRITE A PLAN PROMISE. The other files here say what their private functions promise each other; nothing public rests on them.
+use mathlib.Core.Path.{_≡_}
+use mathlib.Core.List.{List}
+use mathlib.Core.Bool.{Bool, _&&_}
+use Prim.Native.Nat.{ℕ}
+use lib.Dec.{leb}
+use lib.ListN.{length}
+use Rattle.format.specs.Syntax.{print}
+use Rattle.format.specs.Limits.{sourceLimit}
+use Rattle.format.specs.Answer.{Answer, ok, refused, _>>=_, require}
+use Rattle.format.specs.Read.{read}
+use Rattle.format.specs.Canonical.{canonical}
+use Rattle.format.specs.Reading.{cleared, over, tableAfter}
+use Rattle.editor.specs.declared.Writing.{Writing}
+
+-- ---- the bytes to write, or the first refusal
+
+-- 14: "bytes to write exceed the output's length or 65,536"
+abbrev pub fitsIn : (room length : ℕ) → Bool
+fitsIn room length = leb length room && leb length sourceLimit
+
+abbrev pub withRoom : (room : ℕ) → (bytes : List ℕ) → Answer (List ℕ)
+withRoom room bytes = do
+  _ ← require (fitsIn room (length bytes)) 14 0
+  ok bytes
+
+-- "Retyping: reading, then 14."
+unfoldable pub canonicalBytes : (capacity room : ℕ) → (source : List ℕ) → Answer (List ℕ)
+canonicalBytes capacity room source = do
+  v ← read capacity source
+  withRoom room (print (canonical v))
+
+-- ---- what is answered and left
+
+-- the paper's number and values for each case of the enum: "their length as result"; "A refusal returns its number and a position"
+unfoldable pub answerOf : Writing → Answer ℕ
+answerOf (Writing.Written length) = ok length
+answerOf (Writing.Refused code at) = refused code at
+
+-- "A service that writes a plan leaves the table that reading the plan given, if there was one, and then the plan written leaves"; "makes every word of the table zero"
+abbrev pub tableWritten : Answer (List ℕ) → (source table : List ℕ) → List ℕ
+tableWritten (ok bytes) source t = tableAfter bytes (tableAfter source t)
+tableWritten (refused n p) source t = cleared t
+
+-- "Any lent output past the written part keeps what it held."; "writes nothing to the output"
+abbrev pub outputAfter : Answer (List ℕ) → (out : List ℕ) → List ℕ
+outputAfter (ok bytes) out = over bytes out
+outputAfter (refused n p) out = out
+
+-- the answer, every word of the table and every byte of the output, for every input
+pub record Writes (bytes : Answer (List ℕ)) (source before after out out′ : List ℕ) (r : Writing) : Type 0 where
+  pub answer : answerOf r ≡ (bytes >>= λ b. ok (length b))
+  pub table : after ≡ tableWritten bytes source before
+  pub output : out′ ≡ outputAfter bytes out

@@ -1,0 +1,59 @@
+// Writes plans: the canonical text of the one given.
+use reader::Reading;
+ghost use mathlib.Core.Path.{_≡_};
+ghost use lib.ListN.{length};
+ghost use Rattle.format.specs.Reading.{capacityOf};
+ghost use Rattle.editor.specs.Promise.{fitsIn, canonicalBytes, Writes};
+ghost use Rattle.editor.specs.Rewriting.{Accepted, Finishes};
+
+mod canonical;
+mod output;
+mod shortest;
+mod token;
+
+// "bytes to write exceed the output's length or 65,536" is refused.
+const SOURCE_LIMIT: usize = 65536;
+
+// What a service that writes a plan answers: the length written, or a refusal's number and position.
+pub enum Writing {
+    Written { length: usize },
+    Refused { code: u8, at: usize },
+}
+
+// Whether so many bytes may be written to an output of this length.
+fn has_room(room: usize, length: usize) -> bool
+    ensures { λ r. ⌜ r ≡ fitsIn room length ⌝ }
+{
+    if room < length {
+        return false;
+    }
+    length <= SOURCE_LIMIT
+}
+
+// Writes the canonical text of a plan that stands in the table, and reads it into the table.
+fn retype(source: &[u8], table: &mut [u64], out: &mut [u8]) -> Writing
+    requires { ⌜ Accepted (now source) ⌝ }
+    ensures { λ r. ⌜ Finishes (now (source .entry)) (now (table .entry)) (now (table .exit)) (now (out .entry)) (now (out .exit)) r ⌝ }
+{
+    let length = canonical::measure(source);
+    if !has_room(out.len(), length) {
+        reader::clear(table);
+        return Writing::Refused { code: 14, at: 0 };
+    }
+    canonical::write_canonical(source, out);
+    reader::read(&out[..length], table);
+    Writing::Written { length }
+}
+
+// Retyping: the canonical text of a plan, and the table that reading it leaves. A refusal writes nothing, and makes every word of the table zero.
+pub fn canonicalize(source: &[u8], table: &mut [u64], out: &mut [u8]) -> Writing
+    ensures { λ r. ⌜ Writes (canonicalBytes (capacityOf (now (table .entry))) (length (now (out .entry))) (now (source .entry))) (now (source .entry)) (now (table .entry)) (now (table .exit)) (now (out .entry)) (now (out .exit)) r ⌝ }
+{
+    match reader::read(source, table) {
+        Reading::Refused { code, at } => Writing::Refused { code, at },
+        Reading::Accepted {
+            nodes: _,
+            ordinals: _,
+        } => retype(source, table, out),
+    }
+}
