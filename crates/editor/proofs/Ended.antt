@@ -2,9 +2,9 @@
 use Prim.Native.Nat.{ℕ, _+_, _≤_, _<_}
 use native.Mathlib.Nat.{zero-add}
 use native.Mathlib.Omega.{arith}
-use mathlib.Core.Path.{_≡_, refl, sym, ap, _∙_, subst}
-use mathlib.Core.List.{List, _++_}
-use mathlib.Core.Bool.{true, false, _&&_}
+use mathlib.Core.Path.{_≡_, refl, sym, ap, ap₂, _∙_, subst}
+use mathlib.Core.List.{List, [], _∷_, _++_}
+use mathlib.Core.Bool.{Bool, true, false, _&&_}
 use lib.Dec.{leb, leb→le}
 use lib.ListN.{length, take, drop, replicate, length-append}
 use lib.Seq.{sets, sets-eq, length-sets, take-append-seam}
@@ -31,36 +31,48 @@ room-short room length h = rw (lt-leb length room h)
 pub room-is : (room length : ℕ) → length ≤ room → fitsIn room length ≡ leb length sourceLimit
 room-is room length h = rw (le-leb length room h)
 
-module _ (bytes before out : List ℕ) (n : ℕ) (measured : n ≡ length bytes) where
+-- a text put where there is no room for any of it leaves nothing, and is measured
+module _ {bytes : List ℕ} {n : ℕ} {part : List ℕ} (measured : Puts bytes 0 [] n part) (out : List ℕ) where
+  size : n ≡ length bytes
+  size = measured .end ∙ zero-add (length bytes)
+
+  pub untouched : part ++ out ≡ out
+  untouched = go part (ap length (measured .text) ∙ length-sets [] 0 bytes)
+    where
+      go : (p : List ℕ) → length p ≡ 0 → p ++ out ≡ out
+      go [] e = refl
+      go (x ∷ p) e = absurd (omega (arith, e))
+
   -- no room: every word is zero, and nothing is written
-  pub ends-refused : (after : List ℕ) → fitsIn (length out) n ≡ false → after ≡ cleared before → Ends (withRoom (length out) bytes) before after out out (Writing.Refused 14 0)
+  pub ends-refused : (before after : List ℕ) → fitsIn (length (part ++ out)) n ≡ false → after ≡ cleared before
+      → Ends (withRoom (length out) bytes) before after out (part ++ out) (Writing.Refused 14 0)
   unfolding answerOf
-  ends-refused after f e =
-      let none : withRoom (length out) bytes ≡ refused 14 0 = rw (← measured, f) in
-      subst (λ (a : Answer (List ℕ)). Ends a before after out out (Writing.Refused 14 0)) (sym none) (record { answer = refl; table = e; output = refl })
+  ends-refused before after f e =
+      let none : withRoom (length out) bytes ≡ refused 14 0 = ap (λ (b : Bool). require b 14 0 >>= λ u. ok bytes) (ap₂ (λ (l : List ℕ) (k : ℕ). fitsIn (length l) k) (sym untouched) (sym size) ∙ f) in
+      subst (λ (a : Answer (List ℕ)). Ends a before after out (part ++ out) (Writing.Refused 14 0)) (sym none) (record { answer = refl; table = e; output = untouched })
 
-  module _ (f : fitsIn (length out) n ≡ true) where
+  module _ (f : fitsIn (length (part ++ out)) n ≡ true) where
     fits : n ≤ length out
-    fits = leb→le n (length out) (and-left (leb n (length out)) (leb n sourceLimit) (T-of f))
+    fits = omega (arith, leb→le n (length (part ++ out)) (and-left (leb n (length (part ++ out))) (leb n sourceLimit) (T-of f)), ap length untouched)
 
-    module _ (e : ℕ) (out′ : List ℕ) (put : Puts bytes 0 out e out′) where
+    module _ (e : ℕ) (out′ : List ℕ) (put : Puts bytes 0 (part ++ out) e out′) where
       -- the bytes in front, and behind them what was there
       written : out′ ≡ over bytes out
-      written = put .text ∙ sets-eq bytes out 0 (omega (arith, fits)) ∙ ap (λ (k : ℕ). bytes ++ drop k out) (zero-add (length bytes))
+      written = put .text ∙ ap (λ (l : List ℕ). sets l 0 bytes) untouched ∙ sets-eq bytes out 0 (omega (arith, fits, size)) ∙ ap (λ (k : ℕ). bytes ++ drop k out) (zero-add (length bytes))
 
       pub prefix-inside : n ≤ length out′
-      prefix-inside = omega (arith, fits, ap length (put .text) ∙ length-sets out 0 bytes)
+      prefix-inside = omega (arith, fits, ap length (put .text) ∙ length-sets (part ++ out) 0 bytes, ap length untouched)
 
       -- what is read again is what was written
       prefix : take n out′ ≡ bytes
-      prefix = ap (λ (k : ℕ). take k out′) measured ∙ ap (take (length bytes)) written ∙ take-append-seam bytes (drop (length bytes) out)
+      prefix = ap (λ (k : ℕ). take k out′) size ∙ ap (take (length bytes)) written ∙ take-append-seam bytes (drop (length bytes) out)
 
-      pub ends-written : (after : List ℕ) → after ≡ tableAfter (take n out′) before → Ends (withRoom (length out) bytes) before after out out′ (Writing.Written n)
+      pub ends-written : (before after : List ℕ) → after ≡ tableAfter (take n out′) before → Ends (withRoom (length out) bytes) before after out out′ (Writing.Written n)
       unfolding answerOf
-      ends-written after t =
-          let some : withRoom (length out) bytes ≡ ok bytes = rw (← measured, f) in
+      ends-written before after t =
+          let some : withRoom (length out) bytes ≡ ok bytes = ap (λ (b : Bool). require b 14 0 >>= λ u. ok bytes) (ap₂ (λ (l : List ℕ) (k : ℕ). fitsIn (length l) k) (sym untouched) (sym size) ∙ f) in
           subst (λ (a : Answer (List ℕ)). Ends a before after out out′ (Writing.Written n)) (sym some)
-          (record { answer = ap ok measured; table = t ∙ ap (λ (b : List ℕ). tableAfter b before) prefix; output = written })
+          (record { answer = ap ok size; table = t ∙ ap (λ (b : List ℕ). tableAfter b before) prefix; output = written })
 
 -- ---- retyping
 

@@ -25,9 +25,6 @@ pub record Accepted (source : List ℕ) : Type 0 where
 abbrev pub Retypes : (source out : List ℕ) → (written : ℕ) → (out′ : List ℕ) → Type 0
 Retypes source out n out′ = (v : Value) → Is source v → Puts (print (canonical v)) 0 out n out′
 
-abbrev pub Measures : (source : List ℕ) → ℕ → Type 0
-Measures source n = (v : Value) → Is source v → n ≡ length (print (canonical v))
-
 -- the table that reading the bytes written leaves
 abbrev pub tableEnded : Answer (List ℕ) → (table : List ℕ) → List ℕ
 tableEnded (ok bytes) t = tableAfter bytes t

@@ -2,8 +2,7 @@
 use crate::shortest::shortest;
 use crate::token::token;
 use scanner::Scan;
-ghost use mathlib.Core.Path.{_≡_};
-ghost use Rattle.editor.specs.Rewriting.{Accepted, Retypes, Measures};
+ghost use Rattle.editor.specs.Rewriting.{Accepted, Retypes};
 
 // Writes the canonical text as far as there is room; its length.
 pub(crate) fn write_canonical(source: &[u8], out: &mut [u8]) -> usize
@@ -22,13 +21,4 @@ pub(crate) fn write_canonical(source: &[u8], out: &mut [u8]) -> usize
         at = text.next;
     }
     w
-}
-
-// The length of the canonical text: it is written where nothing is kept of it.
-pub(crate) fn measure(source: &[u8]) -> usize
-    requires { ⌜ Accepted (now source) ⌝ }
-    ensures { λ r. ⌜ Measures (now (source .entry)) r ⌝ }
-{
-    let mut scratch = [0u8; 1];
-    write_canonical(source, &mut scratch)
 }

@@ -35,7 +35,8 @@ fn retype(source: &[u8], table: &mut [u64], out: &mut [u8]) -> Writing
     requires { ⌜ Accepted (now source) ⌝ }
     ensures { λ r. ⌜ Finishes (now (source .entry)) (now (table .entry)) (now (table .exit)) (now (out .entry)) (now (out .exit)) r ⌝ }
 {
-    let length = canonical::measure(source);
+    // Written where there is no room for any of it, the text is only measured.
+    let length = canonical::write_canonical(source, &mut out[..0]);
     if !has_room(out.len(), length) {
         reader::clear(table);
         return Writing::Refused { code: 14, at: 0 };
