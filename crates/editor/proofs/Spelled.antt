@@ -3,14 +3,14 @@ use Prim.Native.Nat.{ℕ, _+_, _-_, _≤_}
 use native.Mathlib.Omega.{arith}
 use mathlib.Core.Path.{_≡_, sym, subst}
 use mathlib.Core.Logic.{_⊎_, inl, inr, ⊎-elim}
-use mathlib.Core.List.{List, _++_}
+use mathlib.Core.List.{List}
 use lib.ListN.{getD}
 use lib.Seq.{slice}
 use borrow.Author.Tests.{ne-eqb}
 use Rattle.format.specs.Kind.{Kind, tag}
 use Rattle.scanner.specs.declared.Text.{Text}
-use Rattle.editor.specs.Output.{signedDigits, Puts}
-use Rattle.editor.specs.Shortest.{numberedText, objectHeadText, shortestBy, shortestText, Bounds}
+use Rattle.editor.specs.Output.{Puts}
+use Rattle.editor.specs.Shortest.{numberedText, signedText, objectHeadText, shortestBy, shortestText, Bounds}
 
 module _ (s : List ℕ) (at : ℕ) (x : Text) (w : ℕ) (out : List ℕ) (e : ℕ) (out′ : List ℕ) (b : ℕ) (tagged : getD s at 0 ≡ b) where
   -- the text of its tag, where the code knows the tag
@@ -18,7 +18,7 @@ module _ (s : List ℕ) (at : ℕ) (x : Text) (w : ℕ) (out : List ℕ) (e : �
   unfolding shortestText
   as-tag t i p = subst (λ (u : List ℕ). Puts u w out e out′) (rw tagged (sym i)) p
 
-  pub spelled-int : b ≡ tag Kind.int → Puts (slice at (at + 2) s ++ (signedDigits (x .content) ++ slice (x .next - 1) (x .next) s)) w out e out′ → Puts (shortestText s at x) w out e out′
+  pub spelled-int : b ≡ tag Kind.int → Puts (signedText s at (x .content) (x .next)) w out e out′ → Puts (shortestText s at x) w out e out′
   spelled-int i p = as-tag _ (rw i) p
 
   pub spelled-string : b ≡ tag Kind.string → Puts (numberedText s at (x .size) (x .content - 2) (x .next)) w out e out′ → Puts (shortestText s at x) w out e out′

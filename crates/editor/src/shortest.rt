@@ -7,7 +7,7 @@ use scanner::Text;
 ghost use Prim.Native.Nat.{_+_, _≤_, _<_, _^_};
 ghost use lib.ListN.{length};
 ghost use Rattle.editor.specs.Output.{Puts};
-ghost use Rattle.editor.specs.Shortest.{numberedText, objectHeadText, shortestText, QuotedBounds, Bounds};
+ghost use Rattle.editor.specs.Shortest.{numberedText, signedText, objectHeadText, shortestText, QuotedBounds, Bounds};
 
 // A tag and its colon, a number in shortest form, and the bytes from one index up to another.
 fn numbered(
@@ -26,6 +26,16 @@ fn numbered(
     let tagged = copy(source, at, at + 2, out, w);
     let spelled = number(n, out, tagged);
     copy(source, from, to, out, spelled)
+}
+
+// An integer: its tag and its colon, the shortest text of a word, and the semicolon.
+fn signed(source: &[u8], at: usize, word: u64, next: usize, out: &mut [u8], w: usize) -> usize
+    requires { ⌜ (at + 2 ≤ next) × (next ≤ length (now source)) × (length (now source) < 2 ^ 32) × (w < 2 ^ 37) ⌝ }
+    ensures { λ r. ⌜ Puts (signedText (now (source .entry)) at word next) w (now (out .entry)) r (now (out .exit)) ⌝ }
+{
+    let start = copy(source, at, at + 2, out, w);
+    let digits = integer(word, out, start);
+    copy(source, next - 1, next, out, digits)
 }
 
 // An object's head: its class name's length and its count in shortest form.
@@ -48,11 +58,7 @@ pub(crate) fn shortest(source: &[u8], at: usize, text: Text, out: &mut [u8], w: 
     let tag = source[at];
     let next = text.next;
     match tag {
-        Kind::INT => {
-            let tagged = copy(source, at, at + 2, out, w);
-            let spelled = integer(text.content, out, tagged);
-            copy(source, next - 1, next, out, spelled)
-        }
+        Kind::INT => signed(source, at, text.content, next, out, w),
         Kind::STRING => numbered(
             source,
             at,

@@ -1,7 +1,6 @@
 -- `editor::shortest::shortest` meets its contract. Assumes nothing.
 use native.Mathlib.Omega.{arith}
 use mathlib.Core.Path.{refl}
-use Rattle.editor.proofs.Outputs.{puts-then}
 use Rattle.editor.proofs.Spelled as spelled
 use Rattle.editor.proofs.Spelled.{more-of}
 use borrow.Author.Needs.{needs}
@@ -11,20 +10,8 @@ use Rattle.editor.proofs.shortest.shortest.Tie as tie
 shared-slice-read-tag : tie.Need-shared-slice-read-tag
 shared-slice-read-tag c = omega (arith, c .before .before .before .pre .0 .on, c .before .before .before .pre .0 .inside)
 
-add-copy : tie.Need-add-copy
-add-copy c = omega (arith, c .before .before .before .before .pre .0 .small, c .before .before .before .before .pre .0 .on, c .before .before .before .before .pre .0 .inside, c .before .before .before .before .pre .0 .more (λ e. omega (arith, e, c .match .keys1)), c .before .before .before .before .pre .1)
-
-copy-requires : tie.Need-copy-requires
-copy-requires c κs = omega (arith, c .before .before .before .before .before .pre .0 .small, c .before .before .before .before .before .pre .0 .on, c .before .before .before .before .before .pre .0 .inside, c .before .before .before .before .before .pre .0 .more (λ e. omega (arith, e, c .before .match .keys1)), c .before .before .before .before .before .pre .1)
-
-integer-requires : tie.Need-integer-requires
-integer-requires c κs = omega (arith, c .before .before .before .before .before .before .before .before .before .pre .0 .small, c .before .before .before .before .before .before .before .before .before .pre .0 .on, c .before .before .before .before .before .before .before .before .before .pre .0 .inside, c .before .before .before .before .before .before .before .before .before .pre .0 .more (λ e. omega (arith, e, c .before .before .before .before .before .match .keys1)), c .before .before .before .before .before .before .before .before .before .pre .1, c .before .before .before .copy .ensures .1)
-
-sub-copy : tie.Need-sub-copy
-sub-copy c = omega (arith, c .before .before .before .before .before .before .before .before .before .before .before .before .pre .0 .small, c .before .before .before .before .before .before .before .before .before .before .before .before .pre .0 .on, c .before .before .before .before .before .before .before .before .before .before .before .before .pre .0 .inside, c .before .before .before .before .before .before .before .before .before .before .before .before .pre .0 .more (λ e. omega (arith, e, c .before .before .before .before .before .before .before .before .match .keys1)), c .before .before .before .before .before .before .before .before .before .before .before .before .pre .1)
-
-copy-requires-2 : tie.Need-copy-requires-2
-copy-requires-2 c κs = omega (arith, c .before .before .before .before .before .before .before .before .before .before .before .before .before .pre .0 .small, c .before .before .before .before .before .before .before .before .before .before .before .before .before .pre .0 .on, c .before .before .before .before .before .before .before .before .before .before .before .before .before .pre .0 .inside, c .before .before .before .before .before .before .before .before .before .before .before .before .before .pre .0 .more (λ e. omega (arith, e, c .before .before .before .before .before .before .before .before .before .match .keys1)), c .before .before .before .before .before .before .before .before .before .before .before .before .before .pre .1, c .before .before .before .before .before .before .before .copy .ensures .1, c .before .before .before .integer .ensures .1)
+signed-requires : tie.Need-signed-requires
+signed-requires c κs = omega (arith, c .before .before .before .before .before .pre .0 .small, c .before .before .before .before .before .pre .0 .on, c .before .before .before .before .before .pre .0 .inside, c .before .before .before .before .before .pre .0 .more (λ e. omega (arith, e, c .before .match .keys1)), c .before .before .before .before .before .pre .1)
 
 sub-numbered : tie.Need-sub-numbered
 sub-numbered c = omega (arith, c .before .before .before .before .pre .0 .string (c .match .keys2) .from, c .before .before .before .before .pre .0 .string (c .match .keys2) .to)
@@ -47,14 +34,14 @@ sub-numbered-3 c = omega (arith, c .before .before .before .before .pre .0 .smal
 numbered-requires-3 : tie.Need-numbered-requires-3
 numbered-requires-3 c κs = omega (arith, c .before .before .before .before .before .pre .0 .small, c .before .before .before .before .before .pre .0 .on, c .before .before .before .before .before .pre .0 .inside, more-of (c .before .before .before .before .before .pre .0) (c .before .match .keys5), c .before .before .before .before .before .pre .1)
 
-copy-requires-3 : tie.Need-copy-requires-3
-copy-requires-3 c κs = omega (arith, c .before .before .before .before .before .pre .0 .small, c .before .before .before .before .before .pre .0 .on, c .before .before .before .before .before .pre .0 .inside, c .before .before .before .before .before .pre .1)
+copy-requires : tie.Need-copy-requires
+copy-requires c κs = omega (arith, c .before .before .before .before .before .pre .0 .small, c .before .before .before .before .before .pre .0 .on, c .before .before .before .before .before .pre .0 .inside, c .before .before .before .before .before .pre .1)
 
 same-length : tie.Need-same-length
 same-length c = search needs
 
 returns : tie.Need-returns
-returns c = spelled.spelled-int _ _ _ _ _ _ _ _ refl (c .before .before .before .before .before .before .before .before .before .before .before .before .match .keys1) (puts-then (c .before .before .before .before .before .before .before .before .before .before .copy .ensures .0) (puts-then (c .before .before .before .before .before .before .integer .ensures .0) (c .before .before .copy2 .ensures .0)))
+returns c = spelled.spelled-int _ _ _ _ _ _ _ _ refl (c .before .before .before .before .match .keys1) (c .before .before .signed .ensures)
 
 same-length-2 : tie.Need-same-length-2
 same-length-2 c = search needs
@@ -84,18 +71,14 @@ same-length-6 : tie.Need-same-length-6
 same-length-6 c = search needs
 
 returns-6 : tie.Need-returns-6
-returns-6 c = spelled.spelled-copied _ _ _ _ _ _ _ _ refl (c .before .before .before .before .match .rest .0 .0 .0 .0 .1) (c .before .before .before .before .match .rest .0 .0 .0 .1) (c .before .before .before .before .match .rest .0 .0 .1) (c .before .before .before .before .match .rest .0 .1) (c .before .before .before .before .match .rest .1) (c .before .before .copy3 .ensures .0)
+returns-6 c = spelled.spelled-copied _ _ _ _ _ _ _ _ refl (c .before .before .before .before .match .rest .0 .0 .0 .0 .1) (c .before .before .before .before .match .rest .0 .0 .0 .1) (c .before .before .before .before .match .rest .0 .0 .1) (c .before .before .before .before .match .rest .0 .1) (c .before .before .before .before .match .rest .1) (c .before .before .copy .ensures .0)
 
 pub shortest-spec : {M : Type 1} → statement M
 shortest-spec =
     tie.close
     (tie.spec
     shared-slice-read-tag
-    add-copy
-    copy-requires
-    integer-requires
-    sub-copy
-    copy-requires-2
+    signed-requires
     sub-numbered
     numbered-requires
     sub-numbered-2
@@ -103,7 +86,7 @@ shortest-spec =
     object-head-requires
     sub-numbered-3
     numbered-requires-3
-    copy-requires-3
+    copy-requires
     same-length
     returns
     same-length-2
