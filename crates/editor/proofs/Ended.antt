@@ -1,12 +1,12 @@
 -- What a service that writes answers and leaves, by the definitions. Assumes nothing.
-use Prim.Native.Nat.{ℕ, _+_, _≤_, _<_}
+use Prim.Native.Nat.{ℕ, _≤_, _<_}
 use native.Mathlib.Nat.{zero-add}
 use native.Mathlib.Omega.{arith}
-use mathlib.Core.Path.{_≡_, refl, sym, ap, ap₂, _∙_, subst}
+use mathlib.Core.Path.{_≡_, refl, sym, ap, _∙_, subst}
 use mathlib.Core.List.{List, [], _∷_, _++_}
-use mathlib.Core.Bool.{Bool, true, false, _&&_}
+use mathlib.Core.Bool.{Bool, true, false}
 use lib.Dec.{leb, leb→le}
-use lib.ListN.{length, take, drop, replicate, length-append}
+use lib.ListN.{length, take, drop, replicate}
 use lib.Seq.{sets, sets-eq, length-sets, take-append-seam}
 use borrow.Author.Tests.{le-leb, lt-leb}
 use Rattle.decimal.proofs.Decide.{T-of, and-left}
@@ -19,8 +19,8 @@ use Rattle.format.specs.Reading.{capacityOf, cleared, over, tableAfter}
 use Rattle.format.proofs.Inversion.{read-ok}
 use Rattle.format.proofs.Results.{after-length, after-refused}
 use Rattle.editor.specs.Output.{Puts}
-use Rattle.editor.specs.Promise.{fitsIn, withRoom, canonicalBytes, answerOf, tableWritten, outputAfter, Writes}
-use Rattle.editor.specs.Rewriting.{Is, Accepted, tableEnded, Ends}
+use Rattle.editor.specs.Promise.{fitsIn, withRoom, canonicalBytes, answerOf, tableWritten, Writes}
+use Rattle.editor.specs.Rewriting.{Is, tableEnded, Ends}
 use Rattle.editor.specs.declared.Writing.{Writing}
 
 -- ---- 14
@@ -44,16 +44,16 @@ module _ {bytes : List ℕ} {n : ℕ} {part : List ℕ} (measured : Puts bytes 0
       go (x ∷ p) e = absurd (omega (arith, e))
 
   -- no room: every word is zero, and nothing is written
-  pub ends-refused : (before after : List ℕ) → fitsIn (length (part ++ out)) n ≡ false → after ≡ cleared before
+  pub ends-refused : (before after : List ℕ) → fitsIn (length out) n ≡ false → after ≡ cleared before
       → Ends (withRoom (length out) bytes) before after out (part ++ out) (Writing.Refused 14 0)
   unfolding answerOf
   ends-refused before after f e =
-      let none : withRoom (length out) bytes ≡ refused 14 0 = ap (λ (b : Bool). require b 14 0 >>= λ u. ok bytes) (ap₂ (λ (l : List ℕ) (k : ℕ). fitsIn (length l) k) (sym untouched) (sym size) ∙ f) in
+      let none : withRoom (length out) bytes ≡ refused 14 0 = ap (λ (b : Bool). require b 14 0 >>= λ u. ok bytes) (ap (fitsIn (length out)) (sym size) ∙ f) in
       subst (λ (a : Answer (List ℕ)). Ends a before after out (part ++ out) (Writing.Refused 14 0)) (sym none) (record { answer = refl; table = e; output = untouched })
 
-  module _ (f : fitsIn (length (part ++ out)) n ≡ true) where
+  module _ (f : fitsIn (length out) n ≡ true) where
     fits : n ≤ length out
-    fits = omega (arith, leb→le n (length (part ++ out)) (and-left (leb n (length (part ++ out))) (leb n sourceLimit) (T-of f)), ap length untouched)
+    fits = leb→le n (length out) (and-left (leb n (length out)) (leb n sourceLimit) (T-of f))
 
     module _ (e : ℕ) (out′ : List ℕ) (put : Puts bytes 0 (part ++ out) e out′) where
       -- the bytes in front, and behind them what was there
@@ -70,7 +70,7 @@ module _ {bytes : List ℕ} {n : ℕ} {part : List ℕ} (measured : Puts bytes 0
       pub ends-written : (before after : List ℕ) → after ≡ tableAfter (take n out′) before → Ends (withRoom (length out) bytes) before after out out′ (Writing.Written n)
       unfolding answerOf
       ends-written before after t =
-          let some : withRoom (length out) bytes ≡ ok bytes = ap (λ (b : Bool). require b 14 0 >>= λ u. ok bytes) (ap₂ (λ (l : List ℕ) (k : ℕ). fitsIn (length l) k) (sym untouched) (sym size) ∙ f) in
+          let some : withRoom (length out) bytes ≡ ok bytes = ap (λ (b : Bool). require b 14 0 >>= λ u. ok bytes) (ap (fitsIn (length out)) (sym size) ∙ f) in
           subst (λ (a : Answer (List ℕ)). Ends a before after out out′ (Writing.Written n)) (sym some)
           (record { answer = ap ok size; table = t ∙ ap (λ (b : List ℕ). tableAfter b before) prefix; output = written })
 

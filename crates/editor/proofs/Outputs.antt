@@ -9,7 +9,6 @@ use mathlib.Core.Bool.{Bool, true, false}
 use lib.ListN.{length, getD, take, drop, set, length-append, drop-of-length-le}
 use lib.Seq.{sets, slice, length-slice, drop-cons, drop-drop, take-nil, getD-take, getD-drop, take-append-seam, drop-append-seam}
 use Rattle.decimal.specs.Digits.{decimal}
-use Rattle.decimal.specs.Complement.{isNegative, magnitude}
 use Rattle.decimal.specs.Promise.{Stored, SignedOf}
 use Rattle.decimal.specs.declared.Signed.{Signed}
 use Rattle.decimal.proofs.Stores.{sets-append}

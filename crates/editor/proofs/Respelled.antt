@@ -1,9 +1,9 @@
 -- The shortest text of a token that stands in the source is the canonical token's. Assumes nothing.
-use Prim.Native.Nat.{ℕ, zero, suc, _+_, _-_, _≤_, _<_}
+use Prim.Native.Nat.{ℕ, zero, suc, _+_, _-_, _≤_}
 use native.Mathlib.Nat.{add-zero}
 use native.Mathlib.Omega.{arith}
 use mathlib.Core.Path.{_≡_, refl, sym, ap, ap₂, _∙_}
-use mathlib.Core.List.{List, [], _∷_, _++_, append-assoc, append-nil}
+use mathlib.Core.List.{List, [], _∷_, _++_, append-assoc}
 use mathlib.Core.Bool.{Bool, true, false}
 use lib.ListN.{length, getD, drop, length-append, length-drop}
 use lib.Seq.{slice, getD-drop}
@@ -13,7 +13,7 @@ use Rattle.decimal.proofs.Numerals.{spelled-length}
 use Rattle.decimal.proofs.Complements.{InBits, sign-back, magnitude-back}
 use Rattle.format.specs.Bytes.{byte}
 use Rattle.format.specs.Kind.{Kind, tag}
-use Rattle.format.specs.Syntax.{null, bool, int, float, string, array, object, Spelling, Sign, unsigned, plus, minus, Literal, Quoted, Container, RefKind, objectRef, variableRef, refKind, Reference, writeNumber, writeSign, writeQuoted, writeScalar, writeContainer}
+use Rattle.format.specs.Syntax.{null, bool, int, float, string, array, object, Spelling, Sign, unsigned, plus, minus, Literal, Quoted, Container, RefKind, objectRef, variableRef, refKind, writeNumber, writeSign}
 use Rattle.format.specs.Keys.{signed, integer}
 use Rattle.format.specs.Limits.{sourceLimit, integerLimit}
 use Rattle.format.specs.Table.{word}
@@ -21,7 +21,7 @@ use Rattle.format.specs.Canonical.{shortest, shortestSign}
 use Rattle.format.proofs.Fronts.{sign-front, number-front, number-length, quoted-length}
 use Rattle.scanner.specs.declared.Text.{Text}
 use Rattle.editor.specs.Output.{withSign, signedDigits}
-use Rattle.editor.specs.Shortest.{numberedText, objectHeadText, shortestBy, shortestText, QuotedBounds, Bounds}
+use Rattle.editor.specs.Shortest.{numberedText, shortestBy, shortestText, QuotedBounds, Bounds}
 use Rattle.editor.specs.Tokens.{Token, scalar, reference, opening, closing, writeToken, canonicalToken, TokenFits, tokenTold}
 use Rattle.editor.proofs.Outputs.{slice-of}
 use Rattle.editor.proofs.TokenLaws.{token-front, token-some}

@@ -1,5 +1,5 @@
 -- A plan's tokens, rewritten one by one. Assumes nothing.
-use Prim.Native.Nat.{ℕ, _+_, _≤_, _<_, _^_}
+use Prim.Native.Nat.{ℕ, _+_, _≤_, _<_}
 use native.Mathlib.Nat.{zero-add}
 use native.Mathlib.Omega.{arith}
 use mathlib.Core.Path.{_≡_, refl, sym, ap, _∙_, subst}
@@ -9,8 +9,7 @@ use lib.Seq.{sets}
 use Rattle.decimal.proofs.Stores.{sets-append}
 use Rattle.format.specs.Syntax.{Value, print}
 use Rattle.format.specs.Limits.{sourceLimit}
-use Rattle.format.specs.Fits.{Valid}
-use Rattle.format.specs.Answer.{ok, refused}
+use Rattle.format.specs.Answer.{refused}
 use Rattle.format.specs.Canonical.{canonical}
 use Rattle.format.proofs.Answers.{ok-same, not-both}
 use Rattle.format.proofs.NormalForm.{canonical-shorter}
@@ -21,7 +20,7 @@ use Rattle.scanner.specs.Scans.{Found, Scans}
 use Rattle.scanner.proofs.Numbers.{kept, unfit-of}
 use Rattle.editor.specs.Output.{Puts}
 use Rattle.editor.specs.Shortest.{shortestText, Bounds}
-use Rattle.editor.specs.Tokens.{Token, tokens, writeToken, writeTokens, canonicalToken, TokenFits, AllFit, readToken, tokenTold}
+use Rattle.editor.specs.Tokens.{Token, tokens, writeToken, writeTokens, canonicalToken, AllFit, readToken, tokenTold}
 use Rattle.editor.specs.Rewriting.{Is, Accepted, Retypes}
 use Rattle.editor.proofs.TokenLaws.{tokens-write, tokens-canonical, tokens-fit, token-front, token-some, token-printed}
 use Rattle.editor.proofs.Respelled.{Stands, respelled, bounds}

@@ -1,10 +1,10 @@
 -- One token, as scanned. Assumes nothing.
-use Prim.Native.Nat.{ℕ, suc, _+_, _≤_, _<_}
+use Prim.Native.Nat.{ℕ, _+_, _≤_, _<_}
 use native.Mathlib.Numerals.{add-one}
 use native.Mathlib.Omega.{arith}
-use mathlib.Core.Path.{_≡_, refl, sym, ap, _∙_}
+use mathlib.Core.Path.{_≡_, refl, _∙_}
 use mathlib.Core.Bool.{true, false}
-use mathlib.Core.List.{List, [], _∷_}
+use mathlib.Core.List.{List, _∷_}
 use lib.ListN.{length, getD, drop, drop-of-length-le}
 use lib.Seq.{drop-cons}
 use borrow.Author.Tests.{ne-eqb}
@@ -14,7 +14,7 @@ use Rattle.format.specs.Syntax.{objectRef, variableRef}
 use Rattle.scanner.specs.declared.Scan.{Scan}
 use Rattle.scanner.specs.Scans.{Scans, found, unfit, namedText, scalarBehind, headText, tell, valueTold, scalarTold, headTold}
 use Rattle.scanner.proofs.Numbers.{scans-map}
-use Rattle.editor.specs.Tokens.{Token, scalar, closing, openingOf, referenceOf, tokenBehind, readToken, tokenTold}
+use Rattle.editor.specs.Tokens.{scalar, closing, openingOf, referenceOf, tokenBehind, readToken, tokenTold}
 
 module _ (s : List ℕ) (at : ℕ) where
   pub token-none : length s ≤ at → Scans readToken (tokenTold at) s at (Scan.Not 2)

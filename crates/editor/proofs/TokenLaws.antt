@@ -2,17 +2,16 @@
 use Prim.Native.Nat.{ℕ, _≤_, _<_}
 use native.Mathlib.Omega.{arith}
 use mathlib.Core.Path.{_≡_, refl, sym, ap, ap₂, _∙_}
-use mathlib.Core.List.{List, [], _∷_, _++_, map, append-assoc}
-use mathlib.Core.Bool.{true, false}
+use mathlib.Core.List.{List, [], _∷_, _++_, map}
 use lib.ListN.{length}
 use Rattle.format.specs.Bytes.{byte}
-use Rattle.format.specs.Kind.{Kind, tag}
+use Rattle.format.specs.Kind.{tag}
 use Rattle.format.specs.Tree.{leaf, ref, branch, none, pair, count}
-use Rattle.format.specs.Syntax.{intKey, stringKey, null, bool, int, float, string, array, object, Key, Scalar, Container, Spelling, RefKind, objectRef, variableRef, refKind, Value, Values, writeNumber, writeKey, writeScalar, writeContainer, write, writePairs}
+use Rattle.format.specs.Syntax.{intKey, stringKey, null, bool, int, float, string, array, object, Key, Scalar, Container, Spelling, RefKind, objectRef, variableRef, refKind, Value, Values, writeNumber, writeKey, writeContainer, write, writePairs}
 use Rattle.format.specs.Limits.{numberLimit}
 use Rattle.format.specs.Fits.{KeyFits, ScalarFits, Sound, SoundIn, Limited, LimitedIn}
 use Rattle.format.specs.Answer.{ok}
-use Rattle.format.specs.Canonical.{canonicalKey, canonicalScalar, canonicalHead, canonicalReference, canonical}
+use Rattle.format.specs.Canonical.{canonicalKey, canonicalHead, canonical}
 use Rattle.format.proofs.Fronts.{number-front, scalar-front, container-front}
 use Rattle.format.proofs.NormalForm.{canonicalPairs, count-canonical}
 use Rattle.scanner.specs.Scans.{scalarBehind}

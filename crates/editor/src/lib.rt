@@ -35,14 +35,16 @@ fn retype(source: &[u8], table: &mut [u64], out: &mut [u8]) -> Writing
     requires { ⌜ Accepted (now source) ⌝ }
     ensures { λ r. ⌜ Finishes (now (source .entry)) (now (table .entry)) (now (table .exit)) (now (out .entry)) (now (out .exit)) r ⌝ }
 {
+    let room = out.len();
     // Written where there is no room for any of it, the text is only measured.
     let length = canonical::write_canonical(source, &mut out[..0]);
-    if !has_room(out.len(), length) {
+    if !has_room(room, length) {
         reader::clear(table);
         return Writing::Refused { code: 14, at: 0 };
     }
     canonical::write_canonical(source, out);
-    reader::read(&out[..length], table);
+    let written = &out[..length];
+    reader::read(written, table);
     Writing::Written { length }
 }
 

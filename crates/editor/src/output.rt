@@ -36,9 +36,11 @@ pub(crate) fn integer(word: u64, out: &mut [u8], w: usize) -> usize
     ensures { λ r. ⌜ r ≤ w + 21 ⌝ }
 {
     let signed = decimal::signed_of(word);
-    if signed.negative {
+    let negative = signed.negative;
+    let magnitude = signed.magnitude;
+    if negative {
         decimal::put(out, w, 0, b'-');
-        return number(signed.magnitude, out, w + 1);
+        return number(magnitude, out, w + 1);
     }
-    number(signed.magnitude, out, w)
+    number(magnitude, out, w)
 }

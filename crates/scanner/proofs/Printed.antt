@@ -6,11 +6,11 @@ use mathlib.Core.Bool.{true, false}
 use lib.ListN.{drop}
 use Rattle.format.specs.Bytes.{byte}
 use Rattle.format.specs.Kind.{Kind, tag}
-use Rattle.format.specs.Syntax.{null, bool, int, float, string, array, object, Spelling, Literal, Quoted, Scalar, Container, writeNumber, writeQuoted, writeScalar, writeContainer}
+use Rattle.format.specs.Syntax.{null, bool, int, float, string, array, object, Spelling, Quoted, Scalar, writeNumber, writeQuoted, writeScalar}
 use Rattle.format.specs.Limits.{numberLimit}
 use Rattle.format.specs.Fits.{ScalarFits, ContainerFits}
 use Rattle.format.specs.Answer.{ok}
-use Rattle.format.specs.Read.{isArray, boolText}
+use Rattle.format.specs.Read.{boolText}
 use Rattle.format.proofs.Printed.{number-printed, int-printed, quoted-printed, float-printed}
 use Rattle.scanner.specs.Scans.{countText, namedText, scalarText, scalarBehind, headText}
 

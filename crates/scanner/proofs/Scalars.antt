@@ -1,6 +1,6 @@
 -- Laws of the texts of scalars. Assumes nothing.
 use Prim.Native.Nat.{ℕ}
-use mathlib.Core.Path.{_≡_, refl, sym, _∙_}
+use mathlib.Core.Path.{_≡_, refl, sym}
 use mathlib.Core.List.{List, [], _∷_}
 use borrow.Author.Tests.{ne-eqb}
 use Rattle.format.specs.Bytes.{byte, bytes}
@@ -10,7 +10,7 @@ use Rattle.format.specs.Answer.{ok}
 use Rattle.format.specs.Read.{kindOf, expect, intText, quotedText, boolText, floatText}
 use Rattle.format.proofs.Answers.{bind-map}
 use Rattle.scanner.specs.declared.Scan.{Scan}
-use Rattle.scanner.specs.Scans.{Scans, found, unfit, nullText, scalarText, scalarBehind, nothingTold, boolTold, literalTold, floatTold, quotedTold, scalarTold}
+use Rattle.scanner.specs.Scans.{Scans, unfit, nullText, scalarText, scalarBehind, nothingTold, boolTold, literalTold, floatTold, quotedTold, scalarTold}
 use Rattle.scanner.proofs.Numbers.{scans-map, scans-same}
 
 module _ (s : List ℕ) (at b : ℕ) (r : Scan) where

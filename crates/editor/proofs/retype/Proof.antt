@@ -34,11 +34,11 @@ returns c = λ v i. ended.ends-refused ((c .before .before .before .before .befo
 write-canonical-requires-2 : tie.Need-write-canonical-requires-2
 write-canonical-requires-2 c κs = search needs
 
-slice-reshare-prefix-read : tie.Need-slice-reshare-prefix-read
-slice-reshare-prefix-read c = ended.prefix-inside ((c .before .before .before .before .before .before .before .before .write-canonical .ensures) (c .before .before .before .before .before .before .before .before .before .before .before .before .before .pre .value) (c .before .before .before .before .before .before .before .before .before .before .before .before .before .pre .is)) (c .before .before .before .before .before .before .before .before .before .before .before .before .before .args .out .now) (sym (c .before .before .before .before .before .has-room .ensures) ∙ not-false _ (c .before .before .before .before .if1 .left)) _ _ ((c .before .before .write-canonical2 .ensures) (c .before .before .before .before .before .before .before .before .before .before .before .before .before .pre .value) (c .before .before .before .before .before .before .before .before .before .before .before .before .before .pre .is))
+slice-reshare-prefix-written : tie.Need-slice-reshare-prefix-written
+slice-reshare-prefix-written c = ended.prefix-inside ((c .before .before .before .before .before .before .before .before .write-canonical .ensures) (c .before .before .before .before .before .before .before .before .before .before .before .before .before .pre .value) (c .before .before .before .before .before .before .before .before .before .before .before .before .before .pre .is)) (c .before .before .before .before .before .before .before .before .before .before .before .before .before .args .out .now) (sym (c .before .before .before .before .before .has-room .ensures) ∙ not-false _ (c .before .before .before .before .if1 .left)) _ _ ((c .before .before .write-canonical2 .ensures) (c .before .before .before .before .before .before .before .before .before .before .before .before .before .pre .value) (c .before .before .before .before .before .before .before .before .before .before .before .before .before .pre .is))
 
-slice-aggregate-read : tie.Need-slice-aggregate-read
-slice-aggregate-read c = sym (length-take-le _ _ (ended.prefix-inside ((c .before .before .before .before .before .before .before .before .before .write-canonical .ensures) (c .before .before .before .before .before .before .before .before .before .before .before .before .before .before .pre .value) (c .before .before .before .before .before .before .before .before .before .before .before .before .before .before .pre .is)) (c .before .before .before .before .before .before .before .before .before .before .before .before .before .before .args .out .now) (sym (c .before .before .before .before .before .before .has-room .ensures) ∙ not-false _ (c .before .before .before .before .before .if1 .left)) _ _ ((c .before .before .before .write-canonical2 .ensures) (c .before .before .before .before .before .before .before .before .before .before .before .before .before .before .pre .value) (c .before .before .before .before .before .before .before .before .before .before .before .before .before .before .pre .is))))
+slice-aggregate-written : tie.Need-slice-aggregate-written
+slice-aggregate-written c = sym (length-take-le _ _ (ended.prefix-inside ((c .before .before .before .before .before .before .before .before .before .write-canonical .ensures) (c .before .before .before .before .before .before .before .before .before .before .before .before .before .before .pre .value) (c .before .before .before .before .before .before .before .before .before .before .before .before .before .before .pre .is)) (c .before .before .before .before .before .before .before .before .before .before .before .before .before .before .args .out .now) (sym (c .before .before .before .before .before .before .has-room .ensures) ∙ not-false _ (c .before .before .before .before .before .if1 .left)) _ _ ((c .before .before .before .write-canonical2 .ensures) (c .before .before .before .before .before .before .before .before .before .before .before .before .before .before .pre .value) (c .before .before .before .before .before .before .before .before .before .before .before .before .before .before .pre .is))))
 
 read-requires : tie.Need-read-requires
 read-requires c κs = search needs
@@ -65,8 +65,8 @@ retype-spec =
     same-length-2
     returns
     write-canonical-requires-2
-    slice-reshare-prefix-read
-    slice-aggregate-read
+    slice-reshare-prefix-written
+    slice-aggregate-written
     read-requires
     same-length-3
     same-length-4
