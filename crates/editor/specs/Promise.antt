@@ -32,7 +32,11 @@ canonicalBytes capacity room source = do
 
 -- ---- what is answered and left
 
--- the paper's number and values for each case of the enum: "their length as result"; "A refusal returns its number and a position"
+-- "their length as result"
+abbrev pub lengthOf : (bytes : Answer (List ℕ)) → Answer ℕ
+lengthOf bytes = bytes >>= λ b. ok (length b)
+
+-- the paper's number and values for each case of the enum: the length; "A refusal returns its number and a position"
 unfoldable pub answerOf : Writing → Answer ℕ
 answerOf (Writing.Written length) = ok length
 answerOf (Writing.Refused code at) = refused code at
@@ -49,6 +53,6 @@ outputAfter (refused n p) out = out
 
 -- the answer, every word of the table and every byte of the output, for every input
 pub record Writes (bytes : Answer (List ℕ)) (source before after out out′ : List ℕ) (r : Writing) : Type 0 where
-  pub answer : answerOf r ≡ (bytes >>= λ b. ok (length b))
+  pub answer : answerOf r ≡ lengthOf bytes
   pub table : after ≡ tableWritten bytes source before
   pub output : out′ ≡ outputAfter bytes out

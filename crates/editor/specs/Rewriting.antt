@@ -5,11 +5,11 @@ use Prim.Native.Nat.{ℕ}
 use lib.ListN.{length}
 use Rattle.format.specs.Syntax.{Value, print}
 use Rattle.format.specs.Fits.{Valid}
-use Rattle.format.specs.Answer.{Answer, ok, refused, _>>=_}
+use Rattle.format.specs.Answer.{Answer, ok, refused}
 use Rattle.format.specs.Canonical.{canonical}
 use Rattle.format.specs.Reading.{cleared, tableAfter}
 use Rattle.editor.specs.Output.{Puts}
-use Rattle.editor.specs.Promise.{withRoom, answerOf, outputAfter}
+use Rattle.editor.specs.Promise.{withRoom, lengthOf, answerOf, outputAfter}
 use Rattle.editor.specs.declared.Writing.{Writing}
 
 -- a syntax that the source is the print of
@@ -32,7 +32,7 @@ tableEnded (refused n p) t = cleared t
 
 -- 14, or the canonical text written and read into the table that the plan was read into
 pub record Ends (bytes : Answer (List ℕ)) (before after out out′ : List ℕ) (r : Writing) : Type 0 where
-  pub answer : answerOf r ≡ (bytes >>= λ b. ok (length b))
+  pub answer : answerOf r ≡ lengthOf bytes
   pub table : after ≡ tableEnded bytes before
   pub output : out′ ≡ outputAfter bytes out
 

@@ -11,7 +11,7 @@ slice-relend-prefix-write-canonical : tie.Need-slice-relend-prefix-write-canonic
 slice-relend-prefix-write-canonical c = search needs
 
 slice-aggregate-write-canonical : tie.Need-slice-aggregate-write-canonical
-slice-aggregate-write-canonical c = search needs
+slice-aggregate-write-canonical c = sym (length-take-le _ (c .before .before .before .before .args .out .now) (slice-relend-prefix-write-canonical (c .before)))
 
 write-canonical-requires : tie.Need-write-canonical-requires
 write-canonical-requires c κs = search needs
