@@ -1,5 +1,6 @@
-//! Many plans, each read by both with several tables, up to the first on which they differ.
+//! Many plans, each given to both sides in several calls, up to the first on which they differ.
 
+use crate::call::{Call, Service};
 use crate::compare::{self, Mismatch};
 use crate::memory::Setting;
 use crate::model::{self, Survey};
@@ -13,9 +14,7 @@ use std::hash::{Hash, Hasher};
 use std::path::PathBuf;
 use std::time::Instant;
 
-const SETTINGS: [Setting; 2] = [Setting::Alone, Setting::Surrounded];
-
-/// A plan on which the readers differ.
+/// A plan on which the sides differ.
 pub struct Failure {
     pub source: Vec<u8>,
     pub mismatch: Box<Mismatch>,
@@ -46,8 +45,7 @@ impl Campaign {
             let Some(survey) = self.take_up(source) else {
                 return Ok(());
             };
-            let lengths = lengths::few(&survey, source.len());
-            self.compare(source, &lengths)
+            self.compare(source, lengths::few(&survey, source.len()))
         })
     }
 
@@ -59,12 +57,12 @@ impl Campaign {
         deadline: Option<Instant>,
     ) -> Result<(), Failure> {
         let mut random = Random::new(seed);
-        let wanted = self.statistics.plans + plans;
-        while self.statistics.plans < wanted && deadline.is_none_or(|end| Instant::now() < end) {
+        let wanted = self.statistics.plans() + plans;
+        while self.statistics.plans() < wanted && deadline.is_none_or(|end| Instant::now() < end) {
             let source = generate::plan(&mut random);
             if let Some(survey) = self.take_up(&source) {
-                let lengths = lengths::around(&survey, source.len(), &mut random);
-                self.compare(&source, &lengths)?;
+                let calls = lengths::around(&survey, source.len(), &mut random);
+                self.compare(&source, calls)?;
             }
         }
         Ok(())
@@ -90,25 +88,26 @@ impl Campaign {
         Some(survey)
     }
 
-    /// Reads the plan with a table of each length, in both settings by turns.
-    fn compare(&mut self, source: &[u8], lengths: &[usize]) -> Result<(), Failure> {
-        for (&table_len, setting) in lengths.iter().zip(SETTINGS.into_iter().cycle()) {
-            let compared = compare::read_both(source, table_len, setting);
-            let answer = compared.map_err(|mismatch| Failure {
+    /// Makes every call with the plan, in both settings by turns.
+    fn compare(&mut self, source: &[u8], calls: Vec<Call>) -> Result<(), Failure> {
+        for (call, setting) in calls.into_iter().zip(Setting::ALL.into_iter().cycle()) {
+            let compared = compare::both(source, call, setting);
+            let reply = compared.map_err(|mismatch| Failure {
                 source: source.to_vec(),
                 mismatch,
             })?;
-            self.statistics.count_call(&answer);
+            self.statistics.count_call(call.service, reply);
         }
         Ok(())
     }
 }
 
-/// The first mismatch among all tables worth trying, for the search after a shorter plan.
-pub fn mismatch(source: &[u8]) -> Option<Box<Mismatch>> {
+/// The first mismatch among all calls of a service worth trying, for the search after a shorter
+/// plan.
+pub fn mismatch(source: &[u8], service: Service) -> Option<Box<Mismatch>> {
     let survey = model::survey(source, usize::MAX);
-    lengths::thorough(&survey)
+    lengths::thorough(&survey, source.len(), service)
         .into_iter()
-        .flat_map(|length| SETTINGS.map(|setting| compare::read_both(source, length, setting)))
+        .flat_map(|call| Setting::ALL.map(|setting| compare::both(source, call, setting)))
         .find_map(Result::err)
 }

@@ -1,11 +1,12 @@
-//! The independent test side of Tonschnecke's reading.
+//! The independent test side of Tonschnecke's reading and retyping.
 //!
-//! `model` reads plan bytes in another style than the library does, `library` calls the archive
-//! under test, `compare` lends both the same table and looks at every word. `cases` holds what the
-//! paper states by hand; `generate` and `enumerate` make the plans nobody thought of. `bench` is for
-//! the benchmark alone.
+//! `model` answers in another style than the library does, `library` calls the archive under test,
+//! `sides` gives them one form, `compare` makes the same call on both and looks at every word and
+//! byte. `cases` holds what the paper states by hand; `generate` and `enumerate` make the plans
+//! nobody thought of. `bench` is for the benchmark alone.
 
 pub mod bench;
+pub mod call;
 pub mod campaign;
 pub mod cases;
 pub mod compare;
@@ -15,6 +16,8 @@ pub mod lengths;
 pub mod library;
 pub mod memory;
 pub mod model;
+pub mod oddities;
 pub mod random;
 pub mod shrink;
+pub mod sides;
 pub mod statistics;

@@ -1,8 +1,8 @@
-//! The archive under test, behind a safe function.
+//! The archive under test, behind safe functions.
 
 #![allow(unsafe_code)]
 
-/// What the library returns. Code 0: accepted.
+/// What the library's reading returns. Code 0: accepted.
 #[repr(C)]
 #[derive(Clone, Copy, Debug, PartialEq, Eq)]
 pub struct Reading {
@@ -12,9 +12,27 @@ pub struct Reading {
     pub ordinals: u64,
 }
 
+/// What a service of the library that writes a plan returns. Code 0: accepted.
+#[repr(C)]
+#[derive(Clone, Copy, Debug, PartialEq, Eq)]
+pub struct Writing {
+    pub code: u64,
+    pub at: u64,
+    pub length: u64,
+}
+
 extern "C" {
     fn ton_read(source: *const u8, source_len: usize, table: *mut u64, table_len: usize)
         -> Reading;
+
+    fn ton_canonicalize(
+        source: *const u8,
+        source_len: usize,
+        table: *mut u64,
+        table_len: usize,
+        out: *mut u8,
+        out_len: usize,
+    ) -> Writing;
 }
 
 /// Has the library read `source` into `table`.
@@ -27,6 +45,22 @@ pub fn read(source: &[u8], table: &mut [u64]) -> Reading {
             source.len(),
             table.as_mut_ptr(),
             table.len(),
+        )
+    }
+}
+
+/// Has the library write the canonical text of `source` to `out`.
+pub fn canonicalize(source: &[u8], table: &mut [u64], out: &mut [u8]) -> Writing {
+    // SAFETY: the pointers come with the lengths of the slices they stand for, the slices do not
+    // overlap, and the library keeps none of them beyond the call.
+    unsafe {
+        ton_canonicalize(
+            source.as_ptr(),
+            source.len(),
+            table.as_mut_ptr(),
+            table.len(),
+            out.as_mut_ptr(),
+            out.len(),
         )
     }
 }

@@ -1,27 +1,87 @@
-//! Memory as it is lent to the library: a table between guard words, a source of exact size or one
-//! that stands among bytes which would continue it.
+//! Memory as it is lent: a table and an output between guards, a source of exact size or one that
+//! stands among bytes which would continue it.
 
-use crate::library::{self, Reading};
+use crate::call::Call;
 use std::hint::black_box;
-use std::ops::Range;
 
-/// Guard words before and after the table.
-pub const GUARD: usize = 16;
+/// Guard words or bytes before and after what is lent.
+const GUARD: usize = 16;
 
-/// What a word holds before the call: never zero, and different for each word, since multiplying by
-/// an odd number permutes the 64-bit words.
-pub fn pattern(index: usize) -> u64 {
-    (index as u64 + 1).wrapping_mul(0x9E37_79B9_7F4A_7C15)
+/// A word or a byte of lent memory.
+pub trait Cell: Copy + Eq + Into<u64> {
+    /// What the cell with this index holds before the call.
+    fn pattern(index: usize) -> Self;
 }
 
-/// A table of `length` words with its guards, every word filled with its pattern.
-pub fn patterned(length: usize) -> Vec<u64> {
-    (0..length + 2 * GUARD).map(pattern).collect()
+impl Cell for u64 {
+    /// Never zero, and different for each word, since multiplying by an odd number permutes the
+    /// 64-bit words.
+    fn pattern(index: usize) -> u64 {
+        (index as u64 + 1).wrapping_mul(0x9E37_79B9_7F4A_7C15)
+    }
 }
 
-/// The words of a guarded table that are lent.
-pub fn lent(memory: &[u64]) -> Range<usize> {
-    GUARD..memory.len() - GUARD
+impl Cell for u8 {
+    /// Never zero, nor a byte that the format itself uses.
+    fn pattern(index: usize) -> u8 {
+        0x80 | (u64::pattern(index) >> 57) as u8
+    }
+}
+
+/// Lent cells between guards, every one filled with its pattern at first.
+#[derive(Clone)]
+pub struct Guarded<T> {
+    cells: Vec<T>,
+}
+
+/// A cell that does not hold what it should. The place counts from the first cell lent, so a guard
+/// before it has a negative one.
+#[derive(Clone, Copy, Debug)]
+pub struct WrongCell {
+    pub place: isize,
+    pub expected: u64,
+    pub found: u64,
+}
+
+impl<T: Cell> Guarded<T> {
+    fn new(length: usize) -> Self {
+        Guarded {
+            cells: (0..length + 2 * GUARD).map(T::pattern).collect(),
+        }
+    }
+
+    /// What is lent.
+    pub fn lent(&mut self) -> &mut [T] {
+        let end = self.cells.len() - GUARD;
+        &mut self.cells[GUARD..end]
+    }
+
+    /// The first cell, guards included, that differs from the one of `expected`.
+    pub fn first_wrong(&self, expected: &Self) -> Option<WrongCell> {
+        let mut both = self.cells.iter().zip(&expected.cells);
+        let wrong = both.position(|(found, expected)| found != expected)?;
+        Some(WrongCell {
+            place: wrong as isize - GUARD as isize,
+            expected: expected.cells[wrong].into(),
+            found: self.cells[wrong].into(),
+        })
+    }
+}
+
+/// All that a call may write to.
+#[derive(Clone)]
+pub struct Memory {
+    pub table: Guarded<u64>,
+    pub output: Guarded<u8>,
+}
+
+impl Memory {
+    pub fn for_call(call: Call) -> Self {
+        Memory {
+            table: Guarded::new(call.table_len),
+            output: Guarded::new(call.out_len),
+        }
+    }
 }
 
 /// How the source stands in memory.
@@ -33,19 +93,23 @@ pub enum Setting {
     Surrounded,
 }
 
-/// Calls the library; also tells whether it left the source's memory as it was.
-pub fn read(source: &[u8], setting: Setting, memory: &mut [u64]) -> (Reading, bool) {
+impl Setting {
+    pub const ALL: [Setting; 2] = [Setting::Alone, Setting::Surrounded];
+}
+
+/// Has `call` see the source in this setting; also tells whether it left the source's memory as it
+/// was.
+pub fn with_source<T>(source: &[u8], setting: Setting, call: impl FnOnce(&[u8]) -> T) -> (T, bool) {
     let (before, after): (&[u8], &[u8]) = match setting {
         Setting::Alone => (b"", b""),
         Setting::Surrounded => (b"a:1:{i:0;", continuation(source)),
     };
     let whole = [before, source, after].concat().into_boxed_slice();
     let copy = whole.clone();
-    let range = lent(memory);
     let stretch = before.len()..before.len() + source.len();
-    let reading = library::read(black_box(&whole[stretch]), &mut memory[range]);
+    let returned = call(black_box(&whole[stretch]));
     // The compiler must not conclude that nothing behind these borrows can have changed.
-    (reading, *black_box(&whole) == copy)
+    (returned, *black_box(&whole) == copy)
 }
 
 /// Bytes that may well complete a source that ends too soon.

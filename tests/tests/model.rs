@@ -1,7 +1,8 @@
 //! The model against what the paper says, written by hand.
 
-use tonschnecke_tests::cases::{self, Expected};
+use tonschnecke_tests::cases;
 use tonschnecke_tests::model::{self, Row};
+use tonschnecke_tests::sides;
 
 /// Reads with ample room and checks the ordinals and every row.
 fn assert_table(source: &str, ordinals: usize, rows: &[Row]) {
@@ -21,16 +22,7 @@ fn named_by(source: &str, node: usize) -> u64 {
 
 #[test]
 fn every_case_has_the_answer_written_by_hand() {
-    cases::hold(|case| match model::read(&case.source, case.capacity) {
-        Ok(table) => Expected::Accepted {
-            nodes: table.rows.len() as u64,
-            ordinals: table.ordinals as u64,
-        },
-        Err(refusal) => Expected::Refused {
-            code: refusal.code as u64,
-            at: refusal.at as u64,
-        },
-    });
+    cases::hold(sides::model);
 }
 
 #[test]
@@ -46,6 +38,25 @@ fn tables_that_the_paper_gives_whole() {
     );
     assert_table("s:5:\"basin\";", 1, &[[115, 1, 5, 5, 0, 1]]);
     assert_table("i:-1;", 1, &[[105, 1, 18446744073709551615, 0, 0, 1]]);
+}
+
+/// "the table that reading those bytes leaves": the offsets are those of the texts written.
+#[test]
+fn retyping_leaves_the_table_of_the_text_written() {
+    let source = b"a:02:{s:0003:\"air\";d:012.50;i:+01;O:01:\"X\":00:{}}";
+    let written = model::canonicalize(source, 100, 100).expect("accepted");
+    let text = b"a:2:{s:3:\"air\";d:012.50;i:1;O:1:\"X\":0:{}}";
+    assert_eq!(written.text, text);
+    assert_eq!(
+        written.after.rows,
+        [
+            [97, 1, 0, 0, 2, 5],
+            [115, 0, 10, 3, 0, 2],
+            [100, 2, 17, 6, 0, 3],
+            [105, 0, 1, 0, 0, 4],
+            [79, 3, 33, 1, 0, 5],
+        ]
+    );
 }
 
 #[test]

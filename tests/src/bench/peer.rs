@@ -1,8 +1,12 @@
-//! The peer: a plain reader of the same contract, in one pass, as one would write it by hand. It
-//! finds the node of an ordinal in a list and equal keys by hash sets, and proves nothing.
+//! The peer: a plain reader and retyper of the same contract, as one would write it by hand. It
+//! reads in one pass, finds the node of an ordinal in a list and equal keys by hash sets. It proves
+//! nothing.
 
 mod keys;
+mod retype;
 mod text;
+
+pub use retype::canonicalize;
 
 use crate::library::Reading;
 use keys::Keys;

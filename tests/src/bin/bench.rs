@@ -1,81 +1,106 @@
-//! Measures `ton_read` beside the peer, plan by plan, in one run: rounds by turns, the median of each.
+//! Measures the library beside the peer, service by service and plan by plan, in one run: rounds by
+//! turns, the median of each.
 //!
-//! Before a plan is timed, both read it into tables that hold the same words, and must give the
-//! same answer and leave the same table. The tables that are timed are not cleared between reads.
+//! Before a plan is timed, both are called with memory that holds the same, and must give the same
+//! answer and leave the same memory. What is timed is not cleared between the calls.
 
 use std::hint::black_box;
 use std::time::{Duration, Instant};
 use tonschnecke_tests::bench::peer;
 use tonschnecke_tests::bench::plans::{self, Plan};
-use tonschnecke_tests::library::{self, Reading};
+use tonschnecke_tests::call::{Call, Reply, Service};
+use tonschnecke_tests::memory::Memory;
+use tonschnecke_tests::sides;
 
 /// Odd, so that the median is one of them.
 const ROUNDS: usize = 15;
-/// Reads of a round go on for at least so long.
+/// Calls of a round go on for at least so long.
 const ROUND: Duration = Duration::from_millis(10);
 
-type Read = fn(&[u8], &mut [u64]) -> Reading;
+type Side = fn(&[u8], Call, &mut Memory) -> Reply;
 
 fn main() {
-    println!(
-        "{:<34} {:>7} {:>10} {:>10} {:>7}",
-        "plan", "bytes", "ton_read", "peer", "ratio"
-    );
-    println!("{:<34} {:>7} {:>10} {:>10}", "", "", "ns/byte", "ns/byte");
-    for plan in plans::all() {
-        check(&plan);
-        let (library, peer) = measure(&plan);
+    let plans = plans::all();
+    for service in Service::ALL {
+        let name = service.to_string();
+        let width = name.len().max(10);
         println!(
-            "{:<34} {:>7} {:>10.2} {:>10.2} {:>7.2}",
-            plan.name,
-            plan.source.len(),
-            library,
-            peer,
-            library / peer
+            "{:<34} {:>7} {name:>width$} {:>10} {:>7}",
+            "plan", "bytes", "peer", "ratio"
         );
+        println!(
+            "{:<34} {:>7} {:>width$} {:>10}",
+            "", "", "ns/byte", "ns/byte"
+        );
+        for plan in &plans {
+            check(plan, service);
+            let (library, peer) = measure(plan, service);
+            println!(
+                "{:<34} {:>7} {:>width$.2} {:>10.2} {:>7.2}",
+                plan.name,
+                plan.source.len(),
+                library,
+                peer,
+                library / peer
+            );
+        }
     }
 }
 
-/// Room for every node that such a source can have: none has fewer than two bytes.
-fn words(plan: &Plan) -> usize {
-    plan.source.len() / 2 * peer::WIDTH
+/// Room for every node that such a source can have: none has fewer than two bytes. An output that
+/// suffices: canonical text is never longer than the source.
+fn call(plan: &Plan, service: Service) -> Call {
+    let length = plan.source.len();
+    let table_len = length / 2 * peer::WIDTH;
+    match service {
+        Service::Read => Call::read(table_len),
+        Service::Canonicalize => Call::canonicalize(table_len, length),
+    }
 }
 
-fn check(plan: &Plan) {
-    let held: Vec<u64> = (0..words(plan) as u64).map(|i| u64::MAX - i).collect();
-    let (mut left, mut right) = (held.clone(), held);
-    let reading = library::read(&plan.source, &mut left);
-    assert_eq!(reading.code, 0, "{} is refused", plan.name);
+fn check(plan: &Plan, service: Service) {
+    let call = call(plan, service);
+    let mut left = Memory::for_call(call);
+    let mut right = left.clone();
+    let reply = sides::library(&plan.source, call, &mut left);
+    let name = plan.name;
+    assert_eq!(reply.code(), 0, "{service}: {name} is refused");
     assert_eq!(
-        reading,
-        peer::read(&plan.source, &mut right),
-        "{}: the answers differ",
-        plan.name
+        reply,
+        sides::peer(&plan.source, call, &mut right),
+        "{service}, {name}: the answers differ"
     );
-    assert!(left == right, "{}: the tables differ", plan.name);
+    let wrong_word = right.table.first_wrong(&left.table);
+    let wrong_byte = right.output.first_wrong(&left.output);
+    assert!(wrong_word.is_none(), "{service}, {name}: the tables differ");
+    assert!(
+        wrong_byte.is_none(),
+        "{service}, {name}: the outputs differ"
+    );
 }
 
 /// Nanoseconds a byte, of the library and of the peer.
-fn measure(plan: &Plan) -> (f64, f64) {
-    let mut table = vec![0; words(plan)];
+fn measure(plan: &Plan, service: Service) -> (f64, f64) {
+    let call = call(plan, service);
+    let mut memory = Memory::for_call(call);
     let (mut library, mut peer) = (Vec::new(), Vec::new());
     for _ in 0..ROUNDS {
-        library.push(round(library::read, &plan.source, &mut table));
-        peer.push(round(peer::read, &plan.source, &mut table));
+        library.push(round(sides::library, &plan.source, call, &mut memory));
+        peer.push(round(sides::peer, &plan.source, call, &mut memory));
     }
     (median(library), median(peer))
 }
 
-/// Reads again and again until the time of a round is over; nanoseconds a byte.
-fn round(read: Read, source: &[u8], table: &mut [u64]) -> f64 {
+/// Calls again and again until the time of a round is over; nanoseconds a byte.
+fn round(side: Side, source: &[u8], call: Call, memory: &mut Memory) -> f64 {
     let start = Instant::now();
-    let mut reads = 0;
+    let mut calls = 0;
     loop {
-        black_box(read(black_box(source), black_box(table)));
-        reads += 1;
+        black_box(side(black_box(source), call, black_box(memory)));
+        calls += 1;
         let spent = start.elapsed();
         if spent >= ROUND {
-            return spent.as_nanos() as f64 / (reads * source.len()) as f64;
+            return spent.as_nanos() as f64 / (calls * source.len()) as f64;
         }
     }
 }

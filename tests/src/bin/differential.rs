@@ -89,20 +89,22 @@ fn run(
     Ok(())
 }
 
-/// Prints the plan on which the readers differ, then a shorter one if there is.
+/// Prints the plan on which the sides differ, then a shorter one that the same service gets wrong,
+/// if there is.
 fn explain(failure: &Failure) {
     let source = &failure.source;
     println!("MISMATCH on a plan of {} bytes", source.len());
     println!("plan    {}\n{}", source.escape_ascii(), failure.mismatch);
-    let shortest = shrink(source, |shorter| campaign::mismatch(shorter).is_some());
+    let again = |source: &[u8]| campaign::mismatch(source, failure.mismatch.call.service);
+    let shortest = shrink(source, |shorter| again(shorter).is_some());
     let shorter = shortest.len() < source.len();
-    if let Some(mismatch) = campaign::mismatch(&shortest).filter(|_| shorter) {
+    if let Some(mismatch) = again(&shortest).filter(|_| shorter) {
         println!("shrunk to {} bytes", shortest.len());
         println!("plan    {}\n{mismatch}", shortest.escape_ascii());
     }
 }
 
-/// The run counts only if the generated plans reached every refusal and every kind.
+/// The run counts only if the generated plans reached every refusal, kind and odd spelling.
 fn judge(generated: &Statistics) -> ExitCode {
     let missing = generated.missing();
     for name in &missing {

@@ -1,49 +1,99 @@
 //! Plans with their answers written by hand from the paper: what the model itself is held to.
 
+mod canonical;
 mod order;
 mod paper;
 mod readings;
 
+use crate::call::{Call, Reply};
+use crate::memory::Memory;
+use crate::model::WORDS;
+use std::fmt;
+
 /// An answer written by hand.
-#[derive(Clone, Copy, Debug, PartialEq, Eq)]
-pub enum Expected {
+#[derive(Clone, Debug, PartialEq, Eq)]
+enum Expected {
     Refused { code: u64, at: u64 },
     Accepted { nodes: u64, ordinals: u64 },
+    Written { length: u64, text: Vec<u8> },
 }
 
-/// A plan, the room it is read with, and the answer.
+impl fmt::Display for Expected {
+    fn fmt(&self, out: &mut fmt::Formatter<'_>) -> fmt::Result {
+        match self {
+            Expected::Written { length, text } => {
+                write!(out, "{length} bytes written, {}", text.escape_ascii())
+            }
+            other => write!(out, "{other:?}"),
+        }
+    }
+}
+
+/// A plan, a call with it, and the answer.
 #[derive(Clone, Debug)]
 pub struct Case {
     pub source: Vec<u8>,
-    pub capacity: usize,
-    pub expected: Expected,
+    pub call: Call,
+    expected: Expected,
 }
 
-/// More nodes than any case has.
-const AMPLE: usize = 1_000;
+/// Room for more nodes than any case has.
+const AMPLE_TABLE: usize = 1_000 * WORDS;
 
 /// Every case of the paper and of the readings.
 pub fn all() -> Vec<Case> {
-    [paper::cases(), readings::cases(), order::cases()].concat()
+    let reading = [paper::cases(), readings::cases(), order::cases()].concat();
+    let refused = canonical::refused_alike(&reading);
+    [reading, canonical::cases(), refused].concat()
 }
 
-/// Holds a reader to every case. Panics at the first that it answers otherwise.
-pub fn hold(answer: impl Fn(&Case) -> Expected) {
+/// Holds one of the `sides` to every case. Panics at the first that it answers otherwise.
+pub fn hold(side: impl Fn(&[u8], Call, &mut Memory) -> Reply) {
     for case in all() {
-        let shown = case.source.escape_ascii();
-        assert_eq!(
-            answer(&case),
-            case.expected,
-            "{shown} with room for {}",
-            case.capacity
+        let shown = format!("{:?} with {}", case.call, case.source.escape_ascii());
+        let mut memory = Memory::for_call(case.call);
+        let reply = side(&case.source, case.call, &mut memory);
+        let found = answer(reply, &mut memory);
+        let expected = &case.expected;
+        assert!(
+            found == *expected,
+            "{shown}\nexpected {expected}\nfound {found}"
         );
+        // "the table that reading those bytes leaves"
+        if let Expected::Written { text, .. } = found {
+            let mut again = Memory::for_call(case.call);
+            side(&text, Call::read(case.call.table_len), &mut again);
+            let wrong = memory.table.first_wrong(&again.table);
+            assert!(wrong.is_none(), "{wrong:?}: {shown}");
+        }
+    }
+}
+
+/// A reply, with what it says was written.
+fn answer(reply: Reply, memory: &mut Memory) -> Expected {
+    match reply {
+        _ if reply.code() != 0 => Expected::Refused {
+            code: reply.code(),
+            at: reply.at(),
+        },
+        Reply::Reading(reading) => Expected::Accepted {
+            nodes: reading.nodes,
+            ordinals: reading.ordinals,
+        },
+        Reply::Writing(writing) => {
+            let output = memory.output.lent().iter().copied();
+            Expected::Written {
+                length: writing.length,
+                text: output.take(writing.length as usize).collect(),
+            }
+        }
     }
 }
 
 fn refused(source: impl AsRef<[u8]>, code: u64, at: u64) -> Case {
     Case {
         source: source.as_ref().to_vec(),
-        capacity: AMPLE,
+        call: Call::read(AMPLE_TABLE),
         expected: Expected::Refused { code, at },
     }
 }
@@ -51,7 +101,7 @@ fn refused(source: impl AsRef<[u8]>, code: u64, at: u64) -> Case {
 fn accepted(source: impl AsRef<[u8]>, nodes: u64, ordinals: u64) -> Case {
     Case {
         source: source.as_ref().to_vec(),
-        capacity: AMPLE,
+        call: Call::read(AMPLE_TABLE),
         expected: Expected::Accepted { nodes, ordinals },
     }
 }
@@ -59,7 +109,10 @@ fn accepted(source: impl AsRef<[u8]>, nodes: u64, ordinals: u64) -> Case {
 impl Case {
     /// The same with room for so many nodes only.
     fn within(self, capacity: usize) -> Case {
-        Case { capacity, ..self }
+        Case {
+            call: Call::read(capacity * WORDS),
+            ..self
+        }
     }
 }
 

@@ -32,12 +32,14 @@ fn zeros(random: &mut Random, out: &mut Vec<u8>) {
 /// An integer from where mistakes live: small ones, the ends of the range, powers of two and ten.
 pub fn any_integer(random: &mut Random) -> i64 {
     let near = random.below(5) as i64 - 2;
-    match random.below(8) {
+    match random.below(9) {
         0..=2 => random.below(200) as i64 - 100,
         3 => i64::MIN + random.below(3) as i64,
         4 => i64::MAX - random.below(3) as i64,
         5 => (1_i64 << random.below(63)).wrapping_add(near),
-        6 => 10_i64.pow(random.below(19) as u32).wrapping_neg() + near,
+        6 => random.pick(&[1, -1]) * 10_i64.pow(random.below(19) as u32) + near,
+        // Zero has the most spellings.
+        7 => 0,
         _ => random.word() as i64,
     }
 }
@@ -91,6 +93,10 @@ pub fn text(random: &mut Random, longest: usize) -> Vec<u8> {
         "\0",
         "\u{fc}",
         "a:1:{",
+        "i:+05;",
+        "R:01;",
+        "\":02:{",
+        "-0",
     ];
     let length = random.below(longest + 1);
     match random.below(5) {

@@ -1,17 +1,19 @@
 //! Recursive descent from plan bytes to the tree, with every refusal in its order.
 
+use super::numeral::{Numeral, Role};
 use super::refusal::{Code, Refusal};
 use super::scan::Scanner;
 use super::value::{Key, Pair, Span, Value};
+use super::LONGEST_PLAN;
 use std::collections::HashSet;
 
-const LONGEST_SOURCE: usize = 65_536;
 const DEEPEST: usize = 64;
 
-/// The tree or the refusal, and how many nodes found room.
+/// The tree or the refusal, how many nodes found room, and the integers and numbers met.
 pub struct Parsed {
     pub outcome: Result<Value, Refusal>,
     pub nodes_met: usize,
+    pub numerals: Vec<Numeral>,
 }
 
 /// Parses a whole plan, with room for `capacity` nodes.
@@ -26,6 +28,7 @@ pub fn parse(source: &[u8], capacity: usize) -> Parsed {
     Parsed {
         outcome,
         nodes_met: parser.nodes,
+        numerals: parser.scanner.into_numerals(),
     }
 }
 
@@ -51,7 +54,7 @@ struct Parser<'a> {
 
 impl Parser<'_> {
     fn plan(&mut self) -> Result<Value, Refusal> {
-        if self.scanner.rest().len() > LONGEST_SOURCE {
+        if self.scanner.rest().len() > LONGEST_PLAN {
             return Err(Code::TooLong.at(0));
         }
         let root = self.value(1)?;
@@ -111,9 +114,9 @@ impl Parser<'_> {
             _ => {
                 scanner.literal(b":")?;
                 match tag {
-                    b'i' => Value::Integer(scanner.integer()?),
+                    b'i' => Value::Integer(scanner.integer(Role::Integer)?),
                     b'd' => Value::Float(scanner.float()?),
-                    _ => Value::Text(scanner.quoted()?),
+                    _ => Value::Text(scanner.quoted(Role::TextLength)?),
                 }
             }
         };
@@ -124,7 +127,7 @@ impl Parser<'_> {
     /// "6 and 9 come after the closing `;`."
     fn reference(&mut self, tag: u8, named_at_most: usize) -> Result<Value, Code> {
         self.scanner.literal(&[tag, b':'])?;
-        let ordinal = self.scanner.number()?;
+        let ordinal = self.scanner.number(Role::Reference)?;
         self.scanner.literal(b";")?;
         match tag {
             _ if !(1..=named_at_most).contains(&ordinal) => Err(Code::UnknownOrdinal),
@@ -150,10 +153,10 @@ impl Parser<'_> {
         self.scanner.literal(&[tag, b':'])?;
         let mut class = None;
         if tag == b'O' {
-            class = Some(self.scanner.quoted()?);
+            class = Some(self.scanner.quoted(Role::ClassLength)?);
             self.scanner.literal(b":")?;
         }
-        let count = self.scanner.number()?;
+        let count = self.scanner.number(Role::Count)?;
         self.scanner.literal(b":{")?;
         Ok((class, count))
     }
@@ -188,8 +191,8 @@ impl Parser<'_> {
     fn key_text(&mut self, tag: u8) -> Result<Key, Code> {
         self.scanner.literal(&[tag, b':'])?;
         let key = match tag {
-            b'i' => Key::Integer(self.scanner.integer()?),
-            _ => Key::Text(self.scanner.quoted()?),
+            b'i' => Key::Integer(self.scanner.integer(Role::IntegerKey)?),
+            _ => Key::Text(self.scanner.quoted(Role::TextKeyLength)?),
         };
         self.scanner.literal(b";")?;
         Ok(key)

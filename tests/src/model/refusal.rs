@@ -1,6 +1,6 @@
-//! The refusals of reading, by the paper's numbers.
+//! The refusals of reading and retyping, by the paper's numbers.
 
-/// Rows 1 to 10 of "What is refused, and the order".
+/// Rows 1 to 10 and 14 of "What is refused, and the order".
 #[derive(Clone, Copy, Debug, PartialEq, Eq)]
 pub enum Code {
     TooLong = 1,
@@ -13,6 +13,7 @@ pub enum Code {
     TooDeep = 8,
     EqualKey = 9,
     Trailing = 10,
+    NoOutput = 14,
 }
 
 impl Code {

@@ -1,16 +1,18 @@
 //! The texts of the grammar: literals, runs of digits, quoted bytes, float texts.
 
 use super::float::is_float_text;
+use super::numeral::{Numeral, Role};
 use super::refusal::Code;
 use super::value::Span;
 
 /// "*Number* below means digits without sign, of value at most 65,536."
 const LARGEST_NUMBER: u64 = 65_536;
 
-/// A place in the source, moving to the right.
+/// A place in the source, moving to the right, and the integers and numbers that it passed.
 pub struct Scanner<'a> {
     source: &'a [u8],
     position: usize,
+    numerals: Vec<Numeral>,
 }
 
 impl<'a> Scanner<'a> {
@@ -18,6 +20,7 @@ impl<'a> Scanner<'a> {
         Scanner {
             source,
             position: 0,
+            numerals: Vec::new(),
         }
     }
 
@@ -30,7 +33,11 @@ impl<'a> Scanner<'a> {
     }
 
     pub fn bytes(&self, span: Span) -> &'a [u8] {
-        &self.source[span.offset..span.offset + span.length]
+        span.of(self.source)
+    }
+
+    pub fn into_numerals(self) -> Vec<Numeral> {
+        self.numerals
     }
 
     /// Exactly these bytes.
@@ -43,20 +50,26 @@ impl<'a> Scanner<'a> {
     }
 
     /// A number: a count, a length or an ordinal named.
-    pub fn number(&mut self) -> Result<usize, Code> {
-        match magnitude(self.digits()?) {
+    pub fn number(&mut self, role: Role) -> Result<usize, Code> {
+        let start = self.position;
+        let digits = self.digits()?;
+        self.passed(role, start);
+        match magnitude(digits) {
             Some(value) if value <= LARGEST_NUMBER => Ok(value as usize),
             _ => Err(Code::OutOfRange),
         }
     }
 
     /// An integer of 64 bits with its optional sign.
-    pub fn integer(&mut self) -> Result<i64, Code> {
+    pub fn integer(&mut self, role: Role) -> Result<i64, Code> {
+        let start = self.position;
         let negative = self.rest().first() == Some(&b'-');
         if negative || self.rest().first() == Some(&b'+') {
             self.position += 1;
         }
-        let magnitude = magnitude(self.digits()?).ok_or(Code::OutOfRange)?;
+        let digits = self.digits()?;
+        self.passed(role, start);
+        let magnitude = magnitude(digits).ok_or(Code::OutOfRange)?;
         let value = if negative {
             -i128::from(magnitude)
         } else {
@@ -66,8 +79,8 @@ impl<'a> Scanner<'a> {
     }
 
     /// Number, `:"`, that many bytes of any kind, `"`.
-    pub fn quoted(&mut self) -> Result<Span, Code> {
-        let length = self.number()?;
+    pub fn quoted(&mut self, length_role: Role) -> Result<Span, Code> {
+        let length = self.number(length_role)?;
         self.literal(b":\"")?;
         if self.rest().len() < length {
             return Err(Code::Malformed);
@@ -95,6 +108,15 @@ impl<'a> Scanner<'a> {
             length => self.take(length),
         };
         Ok(self.bytes(span))
+    }
+
+    /// Keeps the integer or number that ends here.
+    fn passed(&mut self, role: Role, start: usize) {
+        let span = Span {
+            offset: start,
+            length: self.position - start,
+        };
+        self.numerals.push(Numeral { role, span });
     }
 
     fn take(&mut self, length: usize) -> Span {

@@ -7,6 +7,13 @@ pub struct Span {
     pub length: usize,
 }
 
+impl Span {
+    /// The bytes it stands for.
+    pub fn of(self, source: &[u8]) -> &[u8] {
+        &source[self.offset..self.offset + self.length]
+    }
+}
+
 /// The key of a pair.
 #[derive(Clone, Copy, Debug, PartialEq, Eq)]
 pub enum Key {

@@ -1,0 +1,78 @@
+//! What the plans of a run were.
+
+use super::Line;
+use crate::model::{Survey, Table};
+use crate::oddities;
+
+/// The nine kinds by their tags.
+const KINDS: &[u8; 9] = b"NbidsaOrR";
+/// The kinds that a key can have.
+const KEY_KINDS: &[u8; 2] = b"is";
+
+#[derive(Default)]
+pub struct Plans {
+    /// All different.
+    pub met: u64,
+    /// Accepted when the table suffices; what follows is of these.
+    accepted: u64,
+    longest: usize,
+    deepest: usize,
+    /// Those that are not their own canonical text.
+    respelled: u64,
+    /// Those with an odd spelling, by `oddities::names`.
+    odd: [u64; oddities::COUNT],
+    /// Nodes that are values, by kind.
+    values: [u64; KINDS.len()],
+    /// Nodes that are keys, by kind.
+    keys: [u64; KEY_KINDS.len()],
+}
+
+impl Plans {
+    pub fn count(&mut self, source: &[u8], survey: &Survey) {
+        self.met += 1;
+        let Ok(table) = &survey.answer else { return };
+        self.accepted += 1;
+        self.longest = self.longest.max(source.len());
+        self.deepest = self.deepest.max(survey.depth);
+        self.respelled += u64::from(survey.canonical != source);
+        let odd = oddities::of(source, &survey.numerals);
+        for (count, odd) in self.odd.iter_mut().zip(odd) {
+            *count += u64::from(odd);
+        }
+        self.count_nodes(table);
+    }
+
+    fn count_nodes(&mut self, table: &Table) {
+        for &[tag, ordinal, ..] in &table.rows {
+            let among = |kinds: &[u8]| kinds.iter().position(|&kind| u64::from(kind) == tag);
+            // Of the kinds that a key can have, only a key takes no ordinal.
+            if let Some(kind) = among(KEY_KINDS).filter(|_| ordinal == 0) {
+                self.keys[kind] += 1;
+            } else if let Some(kind) = among(KINDS) {
+                self.values[kind] += 1;
+            }
+        }
+    }
+
+    pub fn lines(&self) -> Vec<Line> {
+        let odd = oddities::names().into_iter().zip(self.odd);
+        let values = KINDS.iter().zip(self.values);
+        let keys = KEY_KINDS.iter().zip(self.keys);
+        let of_kind = |what: &'static str| {
+            move |(kind, count): (&u8, u64)| {
+                Line::needed(format!("{what} of kind {}", *kind as char), count)
+            }
+        };
+        let mut lines = vec![
+            Line::told("plans, all different", self.met),
+            Line::told("accepted if room suffices", self.accepted),
+            Line::told("longest accepted, bytes", self.longest as u64),
+            Line::told("deepest accepted", self.deepest as u64),
+            Line::needed("accepted, not canonical", self.respelled),
+        ];
+        lines.extend(odd.map(|(name, count)| Line::needed(format!("plans with {name}"), count)));
+        lines.extend(values.map(of_kind("values")));
+        lines.extend(keys.map(of_kind("keys")));
+        lines
+    }
+}
