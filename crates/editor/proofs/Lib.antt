@@ -5,3 +5,4 @@ pub mod TokenLaws
 pub mod Respelled
 pub mod Rewritten
 pub mod Ended
+pub mod Retyping

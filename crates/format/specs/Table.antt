@@ -1,5 +1,6 @@
 -- "The node table": the nodes of a plan's syntax, and their words.
-use mathlib.Core.List.{List, [], _∷_, _++_}
+use mathlib.Core.Path.{_≡_}
+use mathlib.Core.List.{List, [], _∷_, _++_, map}
 use mathlib.Core.Bool.{Bool, true, false}
 use Prim.Native.Nat.{ℕ, suc, _+_, _-_}
 use lib.ListN.{length, getD}
@@ -118,3 +119,12 @@ tableOf v = table (targetOf v) 0 0 1 v
 -- the same node but for its text's offset, word 2 of d, s and O
 abbrev pub withoutOffset : Node → Node
 withoutOffset n = record { tag = n .tag; ordinal = n .ordinal; content = elim (hasText (n .tag)) [ true ↦ 0 | false ↦ n .content ]; size = n .size; link = n .link; end = n .end }
+
+-- two tables of the same nodes but for text offsets, with the same words behind them
+pub record SameButOffsets (one other : List ℕ) : Type 0 where
+  pub nodes : List Node
+  pub others : List Node
+  pub rest : List ℕ
+  pub first : one ≡ flat nodes ++ rest
+  pub second : other ≡ flat others ++ rest
+  pub same : map withoutOffset others ≡ map withoutOffset nodes
