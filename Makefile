@@ -1,6 +1,6 @@
 # make: prove every crate, build the archive for C and Rust.  make run: the main job on the example year.
 # make test: the gate, what CI runs; its last line is 'N passed, 0 failed'.
-# make fuzz SECONDS=600 SEED=7: the library against the independent reader for so long.  make bench: nanoseconds a byte beside a Rust reader.
+# make fuzz SECONDS=600 SEED=7: the library against the independent side for so long.  make bench: nanoseconds a byte beside Rust code.
 .PHONY: all prove archive run test compare fuzz bench clean
 
 BUILD := $(CURDIR)/build
@@ -23,12 +23,14 @@ run:
 	rt check nodes
 	target/bin/nodes < examples/year.plan
 
-# the proved library beside a reader written from the specification alone; the program and the C example as a user runs them
+# the proved library beside a reader and retyper written from the specification alone; the program and the C examples as a user runs them
 compare: archive
 	rt check nodes
 	tests/nodes.sh $(CURDIR)/target/bin/nodes
-	gcc -std=c99 -Wall -Wextra -Werror -pedantic -Iinclude examples/read.c $(BUILD)/libtonschnecke.a -o $(BUILD)/read
-	$(BUILD)/read | diff examples/read.out -
+	for example in read canonicalize; do \
+		gcc -std=c99 -Wall -Wextra -Werror -pedantic -Iinclude examples/$$example.c $(BUILD)/libtonschnecke.a -o $(BUILD)/$$example && \
+		$(BUILD)/$$example | diff examples/$$example.out - || exit 1; \
+	done
 	$(CARGO) test --quiet --release --manifest-path tests/Cargo.toml
 	$(CARGO) run --quiet --release --manifest-path tests/Cargo.toml --bin differential
 

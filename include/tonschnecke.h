@@ -1,7 +1,12 @@
-/* Tonschnecke: reads a PHP-serialized value (a plan) into a table of nodes.
+/* Tonschnecke: reads a PHP-serialized value (a plan) into a table of nodes, and writes its canonical text.
  *
- * Link with libtonschnecke.a. What is said here of the result and of the table is proved of the Rattle code, for
- * every source and every table; crates/tonschnecke/specs/Promise.antt says it exactly. */
+ * Link with libtonschnecke.a. What is said here of the result, the table and the output is proved of the Rattle code,
+ * for every source, every table and every output; crates/tonschnecke/specs/Promise.antt says it exactly.
+ *
+ * The caller of each function owes: source is readable for source_len bytes, table is writable for table_len words (not
+ * bytes, not nodes), out for out_len bytes; none of them overlaps another, and nothing else writes to them during the
+ * call. A pointer may be null only if its length is 0. A call keeps no pointer, uses no other memory but the stack, and
+ * ends for every input. */
 #ifndef TONSCHNECKE_H
 #define TONSCHNECKE_H
 
@@ -51,12 +56,29 @@ typedef struct {
  *
  * An acceptance leaves the words behind the last node as they were. A refusal leaves every word of the table 0.
  *
- * The caller owes: source is readable for source_len bytes and table is writable for table_len words (not bytes, not
- * nodes); the two do not overlap, and nothing else writes to either during the call. A pointer may be null only if
- * its length is 0. The call keeps neither pointer, uses no other memory but the stack, and ends for every input.
- *
  * examples/read.c is a whole program that calls it. */
 ton_reading ton_read(const uint8_t *source, size_t source_len, uint64_t *table, size_t table_len);
+
+/* What a function that writes a plan answers.
+ * Written: code is 0 and at is 0; length is that of the bytes written.
+ * Refused: code is 1 to 10, as reading refuses the source, or
+ *    14   the bytes to write exceed out_len, or 65,536                      0
+ * and at the position; length is 0. */
+typedef struct {
+    uint64_t code, at, length;
+} ton_writing;
+
+/* Writes the canonical text of the source: every integer, count, length and reference in shortest decimal form (no +, no
+ * leading zero, 0 and never -0), all other bytes as they are. Sources of the same meaning get the same bytes.
+ *
+ * Written: out holds the text, and behind it what it held before; the table is what reading the source and then the text
+ * leaves, so the offsets in it (word 2 of d, s and O) are those in the text. The text is never longer than the source: an
+ * out of source_len bytes is always enough.
+ * Refused: every byte of out is as it was, and every word of the table 0.
+ *
+ * examples/canonicalize.c is a whole program that calls it. */
+ton_writing ton_canonicalize(const uint8_t *source, size_t source_len, uint64_t *table, size_t table_len, uint8_t *out,
+                             size_t out_len);
 
 #ifdef __cplusplus
 }

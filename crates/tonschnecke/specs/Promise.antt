@@ -5,8 +5,8 @@ use Prim.Native.Nat.{ℕ}
 use Rattle.format.specs.Answer.{Answer, ok, refused}
 use Rattle.format.specs.Reading.{capacityOf, Counts, answer, tableAfter}
 use Rattle.editor.specs.Promise.{lengthOf, tableWritten, outputAfter}
-use Rattle.tonschnecke.specs.declared.TonReading.{TonReading}
-use Rattle.tonschnecke.specs.declared.TonWriting.{TonWriting}
+use Rattle.tonschnecke.specs.declared.reading.TonReading.{TonReading}
+use Rattle.tonschnecke.specs.declared.writing.TonWriting.{TonWriting}
 
 -- no refusal has number 0, so code 0 says that the plan is accepted
 unfoldable pub readingOf : Answer Counts → TonReading

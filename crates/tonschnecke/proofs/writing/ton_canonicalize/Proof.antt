@@ -1,4 +1,4 @@
--- `tonschnecke::ton_canonicalize` meets its contract. Assumes nothing.
+-- `tonschnecke::writing::ton_canonicalize` meets its contract. Assumes nothing.
 use mathlib.Core.Path.{ap, subst}
 use mathlib.Core.List.{List}
 use Prim.Native.Nat.{ℕ}
@@ -7,8 +7,8 @@ use Rattle.editor.specs.Promise as editor
 use Rattle.editor.specs.declared.Writing.{Writing}
 use Rattle.tonschnecke.specs.Promise.{writingOf, Writes}
 use borrow.Author.Needs.{needs}
-use Rattle.tonschnecke.proofs.ton_canonicalize.Statement.{statement}
-use Rattle.tonschnecke.proofs.ton_canonicalize.Tie as tie
+use Rattle.tonschnecke.proofs.writing.ton_canonicalize.Statement.{statement}
+use Rattle.tonschnecke.proofs.writing.ton_canonicalize.Tie as tie
 
 -- the editor's promise, of the struct that its answer becomes
 passed-on : {bytes : Answer (List ℕ)} {source before after out out′ : List ℕ} {a : Writing} → editor.Writes bytes source before after out out′ a → Writes bytes source before after out out′ (writingOf (editor.answerOf a))

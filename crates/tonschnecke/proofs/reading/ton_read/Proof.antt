@@ -1,4 +1,4 @@
--- `tonschnecke::ton_read` meets its contract. Assumes nothing.
+-- `tonschnecke::reading::ton_read` meets its contract. Assumes nothing.
 use mathlib.Core.Path.{ap, subst}
 use mathlib.Core.List.{List}
 use Prim.Native.Nat.{ℕ}
@@ -6,8 +6,8 @@ use borrow.Author.Needs.{needs}
 use Rattle.reader.specs.Promise as reader
 use Rattle.reader.specs.declared.Reading.{Reading}
 use Rattle.tonschnecke.specs.Promise.{readingOf, Reads}
-use Rattle.tonschnecke.proofs.ton_read.Statement.{statement}
-use Rattle.tonschnecke.proofs.ton_read.Tie as tie
+use Rattle.tonschnecke.proofs.reading.ton_read.Statement.{statement}
+use Rattle.tonschnecke.proofs.reading.ton_read.Tie as tie
 
 -- the reader's promise, of the struct that its answer becomes
 passed-on : {source before after : List ℕ} {a : Reading} → reader.Reads source before after a → Reads source before after (readingOf (reader.answerOf a))

@@ -1,0 +1,33 @@
+// The services that write a plan, for C.
+use editor::Writing;
+ghost use lib.ListN.{length};
+ghost use Rattle.editor.specs.Promise.{canonicalBytes};
+ghost use Rattle.format.specs.Reading.{capacityOf};
+ghost use Rattle.tonschnecke.specs.Promise.{Writes};
+
+// What a service that writes a plan answers. Code 0: written, and `at` is 0; a refusal has length 0.
+#[repr(C)]
+pub struct TonWriting {
+    pub code: u64,
+    pub at: u64,
+    pub length: u64,
+}
+
+// Writes the canonical text of a plan, and leaves the table that reading it leaves. A refusal writes nothing, and makes every word of the table zero.
+#[no_mangle]
+pub extern "C" fn ton_canonicalize(source: &[u8], table: &mut [u64], out: &mut [u8]) -> TonWriting
+    ensures { λ r. ⌜ Writes (canonicalBytes (capacityOf (now (table .entry))) (length (now (out .entry))) (now (source .entry))) (now (source .entry)) (now (table .entry)) (now (table .exit)) (now (out .entry)) (now (out .exit)) r ⌝ }
+{
+    match editor::canonicalize(source, table, out) {
+        Writing::Written { length } => TonWriting {
+            code: 0,
+            at: 0,
+            length: length as u64,
+        },
+        Writing::Refused { code, at } => TonWriting {
+            code: code as u64,
+            at: at as u64,
+            length: 0,
+        },
+    }
+}
