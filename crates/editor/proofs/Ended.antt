@@ -2,7 +2,7 @@
 use Prim.Native.Nat.{ℕ, _≤_, _<_}
 use native.Mathlib.Nat.{zero-add}
 use native.Mathlib.Omega.{arith}
-use mathlib.Core.Path.{_≡_, refl, sym, ap, _∙_, subst}
+use mathlib.Core.Path.{_≡_, refl, sym, ap, ap₂, _∙_, subst}
 use mathlib.Core.List.{List, [], _∷_, _++_}
 use mathlib.Core.Bool.{Bool, true, false}
 use lib.Dec.{leb, leb→le}
@@ -19,8 +19,8 @@ use Rattle.format.specs.Reading.{capacityOf, cleared, over, tableAfter}
 use Rattle.format.proofs.Inversion.{read-ok}
 use Rattle.format.proofs.Results.{after-length, after-refused}
 use Rattle.editor.specs.Output.{Puts}
-use Rattle.editor.specs.Promise.{fitsIn, withRoom, canonicalBytes, answerOf, tableWritten, Writes}
-use Rattle.editor.specs.Rewriting.{Is, tableEnded, Ends}
+use Rattle.editor.specs.Promise.{fitsIn, withRoom, canonicalBytes, answerOf, Writes}
+use Rattle.editor.specs.Rewriting.{Is}
 use Rattle.editor.specs.declared.Writing.{Writing}
 
 -- ---- 14
@@ -43,19 +43,11 @@ module _ {bytes : List ℕ} {n : ℕ} {part : List ℕ} (measured : Puts bytes 0
       go [] e = refl
       go (x ∷ p) e = absurd (omega (arith, e))
 
-  -- no room: every word is zero, and nothing is written
-  pub ends-refused : (before after : List ℕ) → fitsIn (length out) n ≡ false → after ≡ cleared before
-      → Ends (withRoom (length out) bytes) before after out (part ++ out) (Writing.Refused 14 0)
-  unfolding answerOf
-  ends-refused before after f e =
-      let none : withRoom (length out) bytes ≡ refused 14 0 = ap (λ (b : Bool). require b 14 0 >>= λ u. ok bytes) (ap (fitsIn (length out)) (sym size) ∙ f) in
-      subst (λ (a : Answer (List ℕ)). Ends a before after out (part ++ out) (Writing.Refused 14 0)) (sym none) (record { answer = refl; table = e; output = untouched })
-
   module _ (f : fitsIn (length out) n ≡ true) where
     fits : n ≤ length out
     fits = leb→le n (length out) (and-left (leb n (length out)) (leb n sourceLimit) (T-of f))
 
-    module _ (e : ℕ) (out′ : List ℕ) (put : Puts bytes 0 (part ++ out) e out′) where
+    module _ {e : ℕ} {out′ : List ℕ} (put : Puts bytes 0 (part ++ out) e out′) where
       -- the bytes in front, and behind them what was there
       written : out′ ≡ over bytes out
       written = put .text ∙ ap (λ (l : List ℕ). sets l 0 bytes) untouched ∙ sets-eq bytes out 0 (omega (arith, fits, size)) ∙ ap (λ (k : ℕ). bytes ++ drop k out) (zero-add (length bytes))
@@ -67,13 +59,6 @@ module _ {bytes : List ℕ} {n : ℕ} {part : List ℕ} (measured : Puts bytes 0
       prefix : take n out′ ≡ bytes
       prefix = ap (λ (k : ℕ). take k out′) size ∙ ap (take (length bytes)) written ∙ take-append-seam bytes (drop (length bytes) out)
 
-      pub ends-written : (before after : List ℕ) → after ≡ tableAfter (take n out′) before → Ends (withRoom (length out) bytes) before after out out′ (Writing.Written n)
-      unfolding answerOf
-      ends-written before after t =
-          let some : withRoom (length out) bytes ≡ ok bytes = ap (λ (b : Bool). require b 14 0 >>= λ u. ok bytes) (ap (fitsIn (length out)) (sym size) ∙ f) in
-          subst (λ (a : Answer (List ℕ)). Ends a before after out out′ (Writing.Written n)) (sym some)
-          (record { answer = ap ok size; table = t ∙ ap (λ (b : List ℕ). tableAfter b before) prefix; output = written })
-
 -- ---- retyping
 
 pub accepted-is : (capacity : ℕ) (source : List ℕ) (v : Value) → read capacity source ≡ ok v → Is source v
@@ -81,21 +66,36 @@ accepted-is capacity source v e =
     let p = read-ok capacity source v e in
     record { printed = p .printed; valid = p .fits .valid }
 
-pub writes-refused : (source before after out : List ℕ) (code at : ℕ) → read (capacityOf before) source ≡ refused code at → after ≡ tableAfter source before
-    → Writes (canonicalBytes (capacityOf before) (length out) source) source before after out out (Writing.Refused code at)
-unfolding canonicalBytes answerOf
-writes-refused source before after out code at e t =
-    subst (λ (a : Answer (List ℕ)). Writes a source before after out out (Writing.Refused code at)) (sym (ap (λ (a : Answer Value). a >>= λ v. withRoom (length out) (print (canonical v))) e))
-    (record { answer = refl; table = t ∙ after-refused source before code at e; output = refl })
+module _ (source before out : List ℕ) where
+  abbrev text : Answer (List ℕ)
+  text = canonicalBytes (capacityOf before) (length out) source
 
--- the table that the plan given was read into
-ended-written : (a : Answer (List ℕ)) (source before between : List ℕ) → between ≡ tableAfter source before → tableEnded a between ≡ tableWritten a source before
-ended-written (ok bytes) source before between e = ap (tableAfter bytes) e
-ended-written (refused n p) source before between e = ap (λ (k : ℕ). replicate k 0) (ap length e ∙ after-length source before)
+  -- what the definition says, by what is read
+  as-read : (after out′ : List ℕ) (r : Writing) (a : Answer Value) (b : Answer (List ℕ)) → read (capacityOf before) source ≡ a → (a >>= λ v. withRoom (length out) (print (canonical v))) ≡ b
+      → Writes b source before after out out′ r → Writes text source before after out out′ r
+  unfolding canonicalBytes
+  as-read after out′ r a b e f w =
+      subst (λ (c : Answer (List ℕ)). Writes c source before after out out′ r) (sym (ap (λ (a : Answer Value). a >>= λ v. withRoom (length out) (print (canonical v))) e ∙ f)) w
 
-pub writes-ended : (source before between after out out′ : List ℕ) (v : Value) (r : Writing) → read (capacityOf before) source ≡ ok v → between ≡ tableAfter source before
-    → Ends (withRoom (length out) (print (canonical v))) between after out out′ r → Writes (canonicalBytes (capacityOf before) (length out) source) source before after out out′ r
-unfolding canonicalBytes
-writes-ended source before between after out out′ v r e t ends =
-    subst (λ (a : Answer (List ℕ)). Writes a source before after out out′ r) (sym (ap (λ (a : Answer Value). a >>= λ v. withRoom (length out) (print (canonical v))) e))
-    (record { answer = ends .answer; table = ends .table ∙ ended-written (withRoom (length out) (print (canonical v))) source before between t; output = ends .output })
+  pub writes-refused : (after : List ℕ) (code at : ℕ) → read (capacityOf before) source ≡ refused code at → after ≡ tableAfter source before → Writes text source before after out out (Writing.Refused code at)
+  unfolding answerOf
+  writes-refused after code at e t =
+      as-read after out (Writing.Refused code at) (refused code at) (refused code at) e refl (record { answer = refl; table = t ∙ after-refused source before code at e; output = refl })
+
+  module _ (v : Value) (e : read (capacityOf before) source ≡ ok v) (between : List ℕ) (t : between ≡ tableAfter source before) (n : ℕ) (part : List ℕ) (measured : Puts (print (canonical v)) 0 [] n part) where
+    roomed : (b : Bool) → fitsIn (length out) n ≡ b → withRoom (length out) (print (canonical v)) ≡ (require b 14 0 >>= λ u. ok (print (canonical v)))
+    roomed b f = ap (λ (b : Bool). require b 14 0 >>= λ u. ok (print (canonical v))) (ap (fitsIn (length out)) (sym (size measured out)) ∙ f)
+
+    -- no room: every word is zero, and nothing is written
+    pub writes-14 : (after : List ℕ) → fitsIn (length out) n ≡ false → after ≡ cleared between → Writes text source before after out (part ++ out) (Writing.Refused 14 0)
+    unfolding answerOf
+    writes-14 after f c =
+        as-read after (part ++ out) (Writing.Refused 14 0) (ok v) (refused 14 0) e (roomed false f)
+        (record { answer = refl; table = c ∙ ap (λ (k : ℕ). replicate k 0) (ap length t ∙ after-length source before); output = untouched measured out })
+
+    pub writes-text : (f : fitsIn (length out) n ≡ true) (m : ℕ) (out′ : List ℕ) → Puts (print (canonical v)) 0 (part ++ out) m out′ → (after : List ℕ) → after ≡ tableAfter (take n out′) between
+        → Writes text source before after out out′ (Writing.Written n)
+    unfolding answerOf
+    writes-text f m out′ put after c =
+        as-read after out′ (Writing.Written n) (ok v) (ok (print (canonical v))) e (roomed true f)
+        (record { answer = ap ok (size measured out); table = c ∙ ap₂ tableAfter (prefix measured out f put) t; output = written measured out f put })

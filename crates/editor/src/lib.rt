@@ -1,10 +1,10 @@
 // Writes plans: the canonical text of the one given.
+use crate::canonical::write_canonical;
 use reader::Reading;
 ghost use mathlib.Core.Path.{_≡_};
 ghost use lib.ListN.{length};
 ghost use Rattle.format.specs.Reading.{capacityOf};
 ghost use Rattle.editor.specs.Promise.{fitsIn, canonicalBytes, Writes};
-ghost use Rattle.editor.specs.Rewriting.{Accepted, Finishes};
 
 mod canonical;
 mod output;
@@ -30,25 +30,7 @@ fn has_room(room: usize, length: usize) -> bool
     length <= SOURCE_LIMIT
 }
 
-// Writes the canonical text of a plan that stands in the table, and reads it into the table.
-fn retype(source: &[u8], table: &mut [u64], out: &mut [u8]) -> Writing
-    requires { ⌜ Accepted (now source) ⌝ }
-    ensures { λ r. ⌜ Finishes (now (source .entry)) (now (table .entry)) (now (table .exit)) (now (out .entry)) (now (out .exit)) r ⌝ }
-{
-    let room = out.len();
-    // Written where there is no room for any of it, the text is only measured.
-    let length = canonical::write_canonical(source, &mut out[..0]);
-    if !has_room(room, length) {
-        reader::clear(table);
-        return Writing::Refused { code: 14, at: 0 };
-    }
-    canonical::write_canonical(source, out);
-    let written = &out[..length];
-    reader::read(written, table);
-    Writing::Written { length }
-}
-
-// Retyping: the canonical text of a plan, and the table that reading it leaves. A refusal writes nothing, and makes every word of the table zero.
+// Retyping: writes the canonical text of a plan, and leaves the table that reading it leaves. A refusal writes nothing, and makes every word of the table zero.
 pub fn canonicalize(source: &[u8], table: &mut [u64], out: &mut [u8]) -> Writing
     ensures { λ r. ⌜ Writes (canonicalBytes (capacityOf (now (table .entry))) (length (now (out .entry))) (now (source .entry))) (now (source .entry)) (now (table .entry)) (now (table .exit)) (now (out .entry)) (now (out .exit)) r ⌝ }
 {
@@ -57,6 +39,18 @@ pub fn canonicalize(source: &[u8], table: &mut [u64], out: &mut [u8]) -> Writing
         Reading::Accepted {
             nodes: _,
             ordinals: _,
-        } => retype(source, table, out),
+        } => {
+            let room = out.len();
+            // Written where there is no room for any of it, the text is only measured.
+            let length = write_canonical(source, &mut out[..0]);
+            if !has_room(room, length) {
+                reader::clear(table);
+                return Writing::Refused { code: 14, at: 0 };
+            }
+            write_canonical(source, out);
+            let written = &out[..length];
+            reader::read(written, table);
+            Writing::Written { length }
+        }
     }
 }
