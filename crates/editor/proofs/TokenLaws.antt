@@ -15,7 +15,7 @@ use Rattle.format.specs.Canonical.{canonicalKey, canonicalHead, canonical}
 use Rattle.format.proofs.Fronts.{number-front, scalar-front, container-front}
 use Rattle.format.proofs.NormalForm.{canonicalPairs, count-canonical}
 use Rattle.scanner.specs.Scans.{scalarBehind}
-use Rattle.scanner.proofs.Printed.{named-printed, array-printed, object-printed, scalarTag, scalar-tagged, scalar-printed, behindTag}
+use Rattle.scanner.proofs.Printed.{named-printed, array-printed, object-printed, scalarKind, scalar-tagged, scalar-printed, behindTag}
 use Rattle.editor.specs.Tokens.{Token, scalar, reference, opening, closing, keyScalar, tokens, tokensIn, writeToken, writeTokens, canonicalToken, TokenFits, AllFit, tokenBehind, readToken}
 
 -- ---- a plan is its tokens
@@ -112,7 +112,7 @@ token-some (opening h n) r = some (h .container)
 token-some closing r = omega arith
 
 -- a scalar's tag is no other token's
-scalar-token : (x : Scalar) (l : ℕ) (s r : List ℕ) → scalarBehind (scalarTag x) l s ≡ ok (x, r) → tokenBehind (scalarTag x) l s ≡ ok (scalar x, r)
+scalar-token : (x : Scalar) (l : ℕ) (s r : List ℕ) → scalarBehind (tag (scalarKind x)) l s ≡ ok (x, r) → tokenBehind (tag (scalarKind x)) l s ≡ ok (scalar x, r)
 unfolding tokenBehind
 scalar-token null l s r e = rw e
 scalar-token (bool b) l s r e = rw e

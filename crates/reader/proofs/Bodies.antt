@@ -18,6 +18,7 @@ use Rattle.format.specs.Table.{Node, single, keyNode, scalarNode, branchNode}
 use Rattle.format.proofs.Answers.{ok-same, not-both, bind-ok, bind-map}
 use Rattle.scanner.specs.Scans.{countText, namedText, headText, containerTold, scalarText, scalarTold}
 use Rattle.scanner.proofs.BytesAt.{plus-two}
+use Rattle.scanner.proofs.Printed.{scalarKind}
 use Rattle.scanner.proofs.Numbers.{kept}
 use Rattle.reader.specs.Texts.{kindFor, isArrayTag, scalarTag, containerTag, referenceTag, keyKind, keyTold}
 use Rattle.reader.specs.Nodes.{nodeOf}
@@ -46,13 +47,6 @@ body-scalar set inner b l seen before s o =
     (λ o. ⊎-elim (λ e. rw e (bind-map (intText l s) (λ r. (int (r .0), r .1)) asLeaf))
     (λ o. ⊎-elim (λ e. rw e (bind-map (floatText l s) (λ r. (float (r .0), r .1)) asLeaf))
     (λ o. ⊎-elim (λ e. rw e (bind-map (quotedText l (bytes "\";") s) (λ r. (string (r .0), r .1)) asLeaf)) (λ z. absurd z) o) o) o) o) o
-
-abbrev scalarKind : Scalar → Kind
-scalarKind null = Kind.null
-scalarKind (bool b) = Kind.bool
-scalarKind (int x) = Kind.int
-scalarKind (float t) = Kind.float
-scalarKind (string q) = Kind.string
 
 -- what is read behind a tag is of its kind
 scalar-kind : (k : Kind) (l : ℕ) (s : List ℕ) (q : Scalar × List ℕ) → scalarText k l s ≡ ok q → scalarKind (q .0) ≡ k

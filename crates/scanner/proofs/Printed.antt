@@ -35,21 +35,21 @@ object-printed l q w n r f h = rw (quoted-printed l (byte ":") q (writeNumber w 
 abbrev pub behindTag : Scalar → List ℕ → List ℕ
 behindTag x r = drop 1 (writeScalar x r)
 
-abbrev pub scalarTag : Scalar → ℕ
-scalarTag null = tag Kind.null
-scalarTag (bool b) = tag Kind.bool
-scalarTag (int x) = tag Kind.int
-scalarTag (float t) = tag Kind.float
-scalarTag (string q) = tag Kind.string
+abbrev pub scalarKind : Scalar → Kind
+scalarKind null = Kind.null
+scalarKind (bool b) = Kind.bool
+scalarKind (int x) = Kind.int
+scalarKind (float t) = Kind.float
+scalarKind (string q) = Kind.string
 
-pub scalar-tagged : (x : Scalar) (r : List ℕ) → writeScalar x r ≡ scalarTag x ∷ behindTag x r
+pub scalar-tagged : (x : Scalar) (r : List ℕ) → writeScalar x r ≡ tag (scalarKind x) ∷ behindTag x r
 scalar-tagged null r = refl
 scalar-tagged (bool b) r = refl
 scalar-tagged (int x) r = refl
 scalar-tagged (float t) r = refl
 scalar-tagged (string q) r = refl
 
-pub scalar-printed : (l : ℕ) (x : Scalar) (r : List ℕ) → ScalarFits x → scalarBehind (scalarTag x) l (behindTag x r) ≡ ok (x, r)
+pub scalar-printed : (l : ℕ) (x : Scalar) (r : List ℕ) → ScalarFits x → scalarBehind (tag (scalarKind x)) l (behindTag x r) ≡ ok (x, r)
 unfolding scalarBehind scalarText boolText
 scalar-printed l null r f = refl
 scalar-printed l (bool true) r f = refl
