@@ -1,11 +1,11 @@
 // Paper 01: "64 arrays nested are accepted, 65 give 8", and a plan longer than 65,536 bytes.
-use crate::compare::Table;
-use crate::compare::WORDS;
+use crate::answer::Answer;
 use crate::compare::compare;
-use crate::compare::lent;
-use crate::compare::put_node;
+use crate::memory::Table;
+use crate::memory::WORDS;
+use crate::memory::lent_table;
+use crate::memory::put_node;
 use crate::report::Tally;
-use reader::Reading;
 ghost use mathlib.Core.Path.{_≡_};
 ghost use Prim.Native.Nat.{_≤_};
 ghost use lib.ListN.{length};
@@ -47,9 +47,9 @@ fn put_nested_nodes(table: &mut Table) {
 
 fn deepest(tally: Tally) -> Tally {
     let source = nested(64);
-    let mut table = lent();
+    let mut table = lent_table();
     put_nested_nodes(&mut table);
-    let expected = Reading::Accepted {
+    let expected = Answer::Read {
         nodes: 127,
         ordinals: 64,
     };
@@ -59,13 +59,13 @@ fn deepest(tally: Tally) -> Tally {
 fn too_deep(tally: Tally) -> Tally {
     let source = nested(65);
     let table = [0u64; WORDS];
-    let expected = Reading::Refused { code: 8, at: 576 };
+    let expected = Answer::Refused { code: 8, at: 576 };
     compare(tally, b"65 arrays nested", &source, expected, &table)
 }
 
 fn too_long(tally: Tally) -> Tally {
     let source = [b'N'; 65537];
     let table = [0u64; WORDS];
-    let expected = Reading::Refused { code: 1, at: 0 };
+    let expected = Answer::Refused { code: 1, at: 0 };
     compare(tally, b"65,537 bytes", &source, expected, &table)
 }

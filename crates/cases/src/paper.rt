@@ -1,6 +1,7 @@
 // Paper 01: the tables that "The node table" gives, and the cases of "Plans on either side" that reading decides and that are not starred.
 use crate::compare::accepted;
 use crate::compare::refused;
+use crate::memory::Node;
 use crate::report::Tally;
 
 pub(crate) fn run(tally: Tally) -> Tally {
@@ -74,21 +75,23 @@ fn resolved(tally: Tally) -> Tally {
 }
 
 // "has 9 nodes and 4 numbers; r names node 0, R node 6".
+pub(crate) const DAY_NODES: [Node; 9] = [
+    [79, 1, 5, 3, 4, 9],
+    [115, 0, 18, 3, 0, 2],
+    [105, 2, 40, 0, 0, 3],
+    [115, 0, 33, 4, 0, 4],
+    [114, 3, 1, 0, 0, 5],
+    [115, 0, 48, 4, 0, 6],
+    [98, 4, 1, 0, 0, 7],
+    [115, 0, 63, 4, 0, 8],
+    [82, 0, 4, 0, 6, 9],
+];
+
 fn object(tally: Tally) -> Tally {
     accepted(
         tally,
         b"O:3:\"Day\":4:{s:3:\"air\";i:40;s:4:\"self\";r:1;s:4:\"open\";b:1;s:4:\"copy\";R:4;}",
         4,
-        &[
-            [79, 1, 5, 3, 4, 9],
-            [115, 0, 18, 3, 0, 2],
-            [105, 2, 40, 0, 0, 3],
-            [115, 0, 33, 4, 0, 4],
-            [114, 3, 1, 0, 0, 5],
-            [115, 0, 48, 4, 0, 6],
-            [98, 4, 1, 0, 0, 7],
-            [115, 0, 63, 4, 0, 8],
-            [82, 0, 4, 0, 6, 9],
-        ],
+        &DAY_NODES,
     )
 }

@@ -8,8 +8,8 @@ use Rattle.cases.proofs.limits.deepest.Tie as tie
 nested-requires : tie.Need-nested-requires
 nested-requires c κs = search needs
 
-lent-requires : tie.Need-lent-requires
-lent-requires c κs = search needs
+lent-table-requires : tie.Need-lent-table-requires
+lent-table-requires c κs = search needs
 
 put-nested-nodes-requires : tie.Need-put-nested-nodes-requires
 put-nested-nodes-requires c κs = search needs
@@ -34,7 +34,7 @@ deepest-spec =
     tie.close
     (tie.spec
     nested-requires
-    lent-requires
+    lent-table-requires
     put-nested-nodes-requires
     slice-aggregate-compare
     array-share-prefix-source

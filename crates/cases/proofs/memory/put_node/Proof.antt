@@ -1,8 +1,8 @@
--- `cases::compare::put_node` meets its contract. Assumes nothing.
+-- `cases::memory::put_node` meets its contract. Assumes nothing.
 use Prim.Native.Nat.{_-_}
 use borrow.Author.Needs.{needs}
-use Rattle.cases.proofs.compare.put_node.Statement.{statement}
-use Rattle.cases.proofs.compare.put_node.Tie as tie
+use Rattle.cases.proofs.memory.put_node.Statement.{statement}
+use Rattle.cases.proofs.memory.put_node.Tie as tie
 
 abbrev Inv-loop : tie.InvT-loop
 Inv-loop table₀ node words i₀ table i = Unit

@@ -1,10 +1,10 @@
--- `cases::compare::lent` meets its contract. Assumes nothing.
+-- `cases::memory::lent_table` meets its contract. Assumes nothing.
 use Prim.Native.Nat.{_-_}
 use mathlib.Core.Path.{_≡_}
 use lib.ListN.{length}
 use borrow.Author.Needs.{needs}
-use Rattle.cases.proofs.compare.lent.Statement.{statement}
-use Rattle.cases.proofs.compare.lent.Tie as tie
+use Rattle.cases.proofs.memory.lent_table.Statement.{statement}
+use Rattle.cases.proofs.memory.lent_table.Tie as tie
 
 abbrev Inv-loop : tie.InvT-loop
 Inv-loop table₀ i₀ table i = 800 ≡ length table
@@ -36,8 +36,8 @@ loop-again c = search needs
 returns : tie.Need-returns Inv-loop μ-loop
 returns c = search needs
 
-pub lent-spec : {M : Type 1} → statement M
-lent-spec =
+pub lent-table-spec : {M : Type 1} → statement M
+lent-table-spec =
     tie.close
     (tie.spec
     Inv-loop

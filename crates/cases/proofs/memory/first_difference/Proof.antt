@@ -1,11 +1,11 @@
--- `cases::compare::first_difference` meets its contract. Assumes nothing.
+-- `cases::memory::first_difference` meets its contract. Assumes nothing.
 use borrow.Author.Count.{below-more}
 use Prim.Native.Nat.{ℕ, _-_, _<_}
 use mathlib.Core.Path.{_≡_}
 use lib.ListN.{getD}
 use borrow.Author.Needs.{needs}
-use Rattle.cases.proofs.compare.first_difference.Statement.{statement}
-use Rattle.cases.proofs.compare.first_difference.Tie as tie
+use Rattle.cases.proofs.memory.first_difference.Statement.{statement}
+use Rattle.cases.proofs.memory.first_difference.Tie as tie
 
 abbrev Inv-loop : tie.InvT-loop
 Inv-loop a b i₀ i = (k : ℕ) → k < i → getD a k 0 ≡ getD b k 0

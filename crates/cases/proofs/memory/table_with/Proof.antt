@@ -1,15 +1,18 @@
--- `cases::compare::put` meets its contract. Assumes nothing.
+-- `cases::memory::table_with` meets its contract. Assumes nothing.
 use Prim.Native.Nat.{_-_}
 use lib.ListN.{length}
 use borrow.Author.Needs.{needs}
-use Rattle.cases.proofs.compare.put.Statement.{statement}
-use Rattle.cases.proofs.compare.put.Tie as tie
+use Rattle.cases.proofs.memory.table_with.Statement.{statement}
+use Rattle.cases.proofs.memory.table_with.Tie as tie
 
 abbrev Inv-loop : tie.InvT-loop
-Inv-loop table₀ nodes i₀ table i = Unit
+Inv-loop nodes table₀ i₀ table i = Unit
 
 abbrev μ-loop : tie.MeasureT-loop
-μ-loop table₀ nodes i₀ table i = length nodes - i
+μ-loop nodes table₀ i₀ table i = length nodes - i
+
+lent-table-requires : tie.Need-lent-table-requires Inv-loop μ-loop
+lent-table-requires c κs = search needs
 
 loop-holds : tie.Need-loop-holds Inv-loop μ-loop
 loop-holds c = search needs
@@ -35,12 +38,13 @@ loop-again c = search needs
 returns : tie.Need-returns Inv-loop μ-loop
 returns c = search needs
 
-pub put-spec : {M : Type 1} → statement M
-put-spec =
+pub table-with-spec : {M : Type 1} → statement M
+table-with-spec =
     tie.close
     (tie.spec
     Inv-loop
     μ-loop
+    lent-table-requires
     loop-holds
     mul-put-node
     shared-slice-copy-out-put-node
