@@ -20,7 +20,7 @@ use Rattle.format.proofs.Inversion.{read-ok}
 use Rattle.format.proofs.Results.{after-length, after-refused}
 use Rattle.editor.specs.Output.{Puts}
 use Rattle.editor.specs.Promise.{fitsIn, withRoom, canonicalBytes, answerOf, Writes}
-use Rattle.editor.specs.Rewriting.{Is}
+use Rattle.editor.specs.Rewriting.{IsPrint}
 use Rattle.editor.specs.declared.Writing.{Writing}
 
 -- ---- 14
@@ -61,7 +61,7 @@ module _ {bytes : List ℕ} {n : ℕ} {part : List ℕ} (measured : Puts bytes 0
 
 -- ---- retyping
 
-pub accepted-is : (capacity : ℕ) (source : List ℕ) (v : Value) → read capacity source ≡ ok v → Is source v
+pub accepted-is : (capacity : ℕ) (source : List ℕ) (v : Value) → read capacity source ≡ ok v → IsPrint source v
 accepted-is capacity source v e =
     let p = read-ok capacity source v e in
     record { printed = p .printed; valid = p .fits .valid }
@@ -80,7 +80,7 @@ module _ (source before out : List ℕ) where
   pub writes-refused : (after : List ℕ) (code at : ℕ) → read (capacityOf before) source ≡ refused code at → after ≡ tableAfter source before → Writes text source before after out out (Writing.Refused code at)
   unfolding answerOf
   writes-refused after code at e t =
-      as-read after out (Writing.Refused code at) (refused code at) (refused code at) e refl (record { answer = refl; table = t ∙ after-refused source before code at e; output = refl })
+      as-read after out (Writing.Refused code at) (refused code at) (refused code at) e refl (record { answer = refl; leaves = record { table = t ∙ after-refused source before code at e; output = refl } })
 
   module _ (v : Value) (e : read (capacityOf before) source ≡ ok v) (between : List ℕ) (t : between ≡ tableAfter source before) (n : ℕ) (part : List ℕ) (measured : Puts (print (canonical v)) 0 [] n part) where
     roomed : (b : Bool) → fitsIn (length out) n ≡ b → withRoom (length out) (print (canonical v)) ≡ (require b 14 0 >>= λ u. ok (print (canonical v)))
@@ -91,11 +91,11 @@ module _ (source before out : List ℕ) where
     unfolding answerOf
     writes-14 after f c =
         as-read after (part ++ out) (Writing.Refused 14 0) (ok v) (refused 14 0) e (roomed false f)
-        (record { answer = refl; table = c ∙ ap (λ (k : ℕ). replicate k 0) (ap length t ∙ after-length source before); output = untouched measured out })
+        (record { answer = refl; leaves = record { table = c ∙ ap (λ (k : ℕ). replicate k 0) (ap length t ∙ after-length source before); output = untouched measured out } })
 
     pub writes-text : (f : fitsIn (length out) n ≡ true) (m : ℕ) (out′ : List ℕ) → Puts (print (canonical v)) 0 (part ++ out) m out′ → (after : List ℕ) → after ≡ tableAfter (take n out′) between
         → Writes text source before after out out′ (Writing.Written n)
     unfolding answerOf
     writes-text f m out′ put after c =
         as-read after out′ (Writing.Written n) (ok v) (ok (print (canonical v))) e (roomed true f)
-        (record { answer = ap ok (size measured out); table = c ∙ ap₂ tableAfter (prefix measured out f put) t; output = written measured out f put })
+        (record { answer = ap ok (size measured out); leaves = record { table = c ∙ ap₂ tableAfter (prefix measured out f put) t; output = written measured out f put } })

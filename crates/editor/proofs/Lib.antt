@@ -1,8 +1,9 @@
 pub mod Outputs
 pub mod Scanned
 pub mod Spelled
+pub mod TokenLists
 pub mod TokenLaws
 pub mod Respelled
 pub mod Rewritten
 pub mod Ended
-pub mod Retyping
+pub mod Canonicalizing

@@ -9,7 +9,7 @@ use lib.ListN.{length, getD, drop, length-append, length-drop}
 use lib.Seq.{slice, getD-drop}
 use Rattle.decimal.specs.Digits.{decimal, spelled}
 use Rattle.decimal.specs.Complement.{pattern}
-use Rattle.decimal.proofs.Numerals.{spelled-length}
+use Rattle.decimal.proofs.Numerals.{spelled-length, spelled-some}
 use Rattle.decimal.proofs.Complements.{InBits, sign-back, magnitude-back}
 use Rattle.format.specs.Bytes.{byte}
 use Rattle.format.specs.Kind.{Kind, tag}
@@ -22,7 +22,8 @@ use Rattle.format.proofs.Fronts.{sign-front, number-front, number-length, quote
 use Rattle.scanner.specs.declared.Text.{Text}
 use Rattle.editor.specs.Output.{withSign, signedDigits}
 use Rattle.editor.specs.Shortest.{numberedText, shortestBy, shortestText, QuotedBounds, Bounds}
-use Rattle.editor.specs.Tokens.{Token, scalar, reference, opening, closing, writeToken, canonicalToken, TokenFits, tokenTold}
+use Rattle.editor.specs.Tokens.{Token, scalar, reference, opening, closing, tokenTold}
+use Rattle.editor.proofs.TokenLists.{writeToken, canonicalToken, TokenFits}
 use Rattle.editor.proofs.Outputs.{slice-of}
 use Rattle.editor.proofs.TokenLaws.{token-front, token-some}
 
@@ -182,8 +183,8 @@ module _ (s : List ℕ) (at : ℕ) (x : Text) where
 
 module _ (s : List ℕ) (at : ℕ) (x : Text) (small : length s ≤ sourceLimit) where
   bounded : (t : Token) → Stands s at t x → (b : ℕ) (r : List ℕ) → drop at s ≡ b ∷ r → ((b ≡ byte "}" → ⊥) → 2 ≤ length (writeToken t []))
-      → (b ≡ tag Kind.string → QuotedBounds at x) → (b ≡ tag Kind.object → QuotedBounds at x) → Bounds s at x
-  bounded t st b r e more str obj =
+      → (b ≡ tag Kind.int → 4 ≤ length (writeToken t [])) → (b ≡ tag Kind.string → QuotedBounds at x) → (b ≡ tag Kind.object → QuotedBounds at x) → Bounds s at x
+  bounded t st b r e more num str obj =
       let tagged : getD s at 0 ≡ b = first-byte s at b r e in
       let next : x .next ≡ at + length (writeToken t []) = ends s at x t st in
       record {
@@ -191,13 +192,23 @@ module _ (s : List ℕ) (at : ℕ) (x : Text) (small : length s ≤ sourceLimit)
         on = omega (arith, token-some t []);
         inside = st .inside;
         more = λ n. omega (arith, more (λ i. n (tagged ∙ i)));
+        int = λ i. omega (arith, num (sym tagged ∙ i));
         string = λ i. str (sym tagged ∙ i);
         object = λ i. obj (sym tagged ∙ i);
       }
 
   -- a token without quotes, whose tag is known
-  plain : (t : Token) → Stands s at t x → (b : ℕ) (r : List ℕ) → drop at s ≡ b ∷ r → 2 ≤ length (writeToken t []) → (b ≡ tag Kind.string → ⊥) → (b ≡ tag Kind.object → ⊥) → Bounds s at x
-  plain t st b r e h n o = bounded t st b r e (λ i. h) (λ i. absurd (n i)) (λ i. absurd (o i))
+  plain : (t : Token) → Stands s at t x → (b : ℕ) (r : List ℕ) → drop at s ≡ b ∷ r → 2 ≤ length (writeToken t []) → (b ≡ tag Kind.int → ⊥) → (b ≡ tag Kind.string → ⊥) → (b ≡ tag Kind.object → ⊥) → Bounds s at x
+  plain t st b r e h m n o = bounded t st b r e (λ i. h) (λ i. absurd (m i)) (λ i. absurd (n i)) (λ i. absurd (o i))
+
+  -- a sign or none, a digit or more, and the semicolon
+  int-length : (i : Literal) → 4 ≤ length (writeToken (scalar (int i)) [])
+  int-length i = omega (arith, ap length (sign-front (i .sign) (spelled (i .zeros) (i .magnitude)) (59 ∷ [])), length-append (writeSign (i .sign) (spelled (i .zeros) (i .magnitude))) (59 ∷ []), signed (i .sign))
+    where
+      signed : (g : Sign) → 1 ≤ length (writeSign g (spelled (i .zeros) (i .magnitude)))
+      signed unsigned = omega (arith, spelled-some (i .zeros) (i .magnitude))
+      signed plus = omega arith
+      signed minus = omega arith
 
   string-bounds : (q : Quoted) → Stands s at (scalar (string q)) x → QuotedBounds at x
   string-bounds q st =
@@ -223,20 +234,21 @@ module _ (s : List ℕ) (at : ℕ) (x : Text) (small : length s ≤ sourceLimit)
       }
 
   opening-bounds : (c : Container) (w : Spelling) (n : ℕ) → Stands s at (opening (record { container = c; spelling = w }) n) x → Bounds s at x
-  opening-bounds array w n st = plain (opening (record { container = array; spelling = w }) n) st 97 _ (st .written) (omega arith) (λ i. omega (arith, i)) (λ i. omega (arith, i))
+  opening-bounds array w n st = plain (opening (record { container = array; spelling = w }) n) st 97 _ (st .written) (omega arith) (λ i. omega (arith, i)) (λ i. omega (arith, i)) (λ i. omega (arith, i))
   opening-bounds (object q) w n st =
-      bounded (opening (record { container = object q; spelling = w }) n) st 79 _ (st .written) (λ i. omega arith) (λ i. absurd (omega (arith, i))) (λ i. object-bounds q w n st)
+      bounded (opening (record { container = object q; spelling = w }) n) st 79 _ (st .written) (λ i. omega arith) (λ i. absurd (omega (arith, i))) (λ i. absurd (omega (arith, i))) (λ i. object-bounds q w n st)
 
   reference-bounds : (k : RefKind) (w : Spelling) (n : ℕ) → Stands s at (reference (record { kind = k; spelling = w; named = n })) x → Bounds s at x
-  reference-bounds objectRef w n st = plain (reference (record { kind = objectRef; spelling = w; named = n })) st 114 _ (st .written) (omega arith) (λ i. omega (arith, i)) (λ i. omega (arith, i))
-  reference-bounds variableRef w n st = plain (reference (record { kind = variableRef; spelling = w; named = n })) st 82 _ (st .written) (omega arith) (λ i. omega (arith, i)) (λ i. omega (arith, i))
+  reference-bounds objectRef w n st = plain (reference (record { kind = objectRef; spelling = w; named = n })) st 114 _ (st .written) (omega arith) (λ i. omega (arith, i)) (λ i. omega (arith, i)) (λ i. omega (arith, i))
+  reference-bounds variableRef w n st = plain (reference (record { kind = variableRef; spelling = w; named = n })) st 82 _ (st .written) (omega arith) (λ i. omega (arith, i)) (λ i. omega (arith, i)) (λ i. omega (arith, i))
 
   pub bounds : (t : Token) → Stands s at t x → Bounds s at x
-  bounds (scalar null) st = plain (scalar null) st 78 _ (st .written) (omega arith) (λ i. omega (arith, i)) (λ i. omega (arith, i))
-  bounds (scalar (bool b)) st = plain (scalar (bool b)) st 98 _ (st .written) (omega arith) (λ i. omega (arith, i)) (λ i. omega (arith, i))
-  bounds (scalar (int i)) st = plain (scalar (int i)) st 105 _ (st .written) (omega arith) (λ i. omega (arith, i)) (λ i. omega (arith, i))
-  bounds (scalar (float f)) st = plain (scalar (float f)) st 100 _ (st .written) (omega arith) (λ i. omega (arith, i)) (λ i. omega (arith, i))
-  bounds (scalar (string q)) st = bounded (scalar (string q)) st 115 _ (st .written) (λ i. omega arith) (λ i. string-bounds q st) (λ i. absurd (omega (arith, i)))
+  bounds (scalar null) st = plain (scalar null) st 78 _ (st .written) (omega arith) (λ i. omega (arith, i)) (λ i. omega (arith, i)) (λ i. omega (arith, i))
+  bounds (scalar (bool b)) st = plain (scalar (bool b)) st 98 _ (st .written) (omega arith) (λ i. omega (arith, i)) (λ i. omega (arith, i)) (λ i. omega (arith, i))
+  bounds (scalar (int i)) st =
+      bounded (scalar (int i)) st 105 _ (st .written) (λ n. omega arith) (λ n. int-length i) (λ n. absurd (omega (arith, n))) (λ n. absurd (omega (arith, n)))
+  bounds (scalar (float f)) st = plain (scalar (float f)) st 100 _ (st .written) (omega arith) (λ i. omega (arith, i)) (λ i. omega (arith, i)) (λ i. omega (arith, i))
+  bounds (scalar (string q)) st = bounded (scalar (string q)) st 115 _ (st .written) (λ i. omega arith) (λ i. absurd (omega (arith, i))) (λ i. string-bounds q st) (λ i. absurd (omega (arith, i)))
   bounds (reference r) st = reference-bounds (r .kind) (r .spelling) (r .named) st
   bounds (opening h n) st = opening-bounds (h .container) (h .spelling) n st
-  bounds closing st = bounded closing st 125 _ (st .written) (λ n. absurd (n refl)) (λ i. absurd (omega (arith, i))) (λ i. absurd (omega (arith, i)))
+  bounds closing st = bounded closing st 125 _ (st .written) (λ n. absurd (n refl)) (λ i. absurd (omega (arith, i))) (λ i. absurd (omega (arith, i))) (λ i. absurd (omega (arith, i)))

@@ -20,8 +20,9 @@ use Rattle.scanner.specs.Scans.{Found, Scans}
 use Rattle.scanner.proofs.Numbers.{kept, unfit-of}
 use Rattle.editor.specs.Output.{Puts}
 use Rattle.editor.specs.Shortest.{shortestText, Bounds}
-use Rattle.editor.specs.Tokens.{Token, tokens, writeToken, writeTokens, canonicalToken, AllFit, readToken, tokenTold}
-use Rattle.editor.specs.Rewriting.{Is, Accepted, Retypes}
+use Rattle.editor.specs.Tokens.{Token, readToken, tokenTold}
+use Rattle.editor.proofs.TokenLists.{tokens, writeToken, writeTokens, canonicalToken, AllFit}
+use Rattle.editor.specs.Rewriting.{IsPrint, ValidSource, Canonicalizes}
 use Rattle.editor.proofs.TokenLaws.{tokens-write, tokens-canonical, tokens-fit, token-front, token-some, token-printed}
 use Rattle.editor.proofs.Respelled.{Stands, respelled, bounds}
 
@@ -35,7 +36,7 @@ canonical-text v = ap (λ (ts : List Token). writeTokens ts []) (sym (tokens-can
 -- what is left to write, with what was written, is the canonical text of the plan
 pub record Rewritten (s out₀ : List ℕ) (at w : ℕ) (out : List ℕ) : Type 0 where
   pub value : Value
-  pub is : Is s value
+  pub is : IsPrint s value
   pub left : List Token
   pub fit : AllFit left
   pub rest : drop at s ≡ writeTokens left []
@@ -43,7 +44,7 @@ pub record Rewritten (s out₀ : List ℕ) (at w : ℕ) (out : List ℕ) : Type 
   pub text : sets out w (canonicalText left) ≡ sets out₀ 0 (print (canonical value))
   pub same : length out ≡ length out₀
 
-pub rewritten-none : (s out : List ℕ) → Accepted s → Rewritten s out 0 0 out
+pub rewritten-none : (s out : List ℕ) → ValidSource s → Rewritten s out 0 0 out
 rewritten-none s out a =
     let v : Value = a .value in
     record {
@@ -94,7 +95,7 @@ module _ {s out₀ : List ℕ} {at w : ℕ} {out : List ℕ} (r : Rewritten s ou
   pub low : w ≤ sourceLimit
   low = omega (arith, r .end, canonical-shorter (r .value), r .is .valid .short)
 
-  pub rewritten-all : length s ≤ at → Retypes s out₀ w out
+  pub rewritten-all : length s ≤ at → Canonicalizes s out₀ w out
   rewritten-all h v i = go (r .left) (sym (r .rest) ∙ drop-of-length-le s {i = at} h) (r .end) (r .text)
     where
       one : r .value ≡ v

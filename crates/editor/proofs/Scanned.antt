@@ -4,6 +4,7 @@ use native.Mathlib.Numerals.{add-one}
 use native.Mathlib.Omega.{arith}
 use mathlib.Core.Path.{_≡_, refl, _∙_}
 use mathlib.Core.Bool.{true, false}
+use mathlib.Core.Logic.{_⊎_, inl, inr, ⊎-elim}
 use mathlib.Core.List.{List, _∷_}
 use lib.ListN.{length, getD, drop, drop-of-length-le}
 use lib.Seq.{drop-cons}
@@ -44,16 +45,14 @@ module _ (s : List ℕ) (at : ℕ) where
       unfolding tokenBehind
       token-object i f = behind r (scans-map openingOf (λ l s. rw i) (λ x next. refl) f)
 
-      pub token-object-reference : b ≡ tag Kind.objectReference → Scans namedText valueTold s (at + 1) r → Scans readToken (tokenTold at) s at r
+      pub token-reference : (b ≡ tag Kind.variableReference) ⊎ (b ≡ tag Kind.objectReference) → Scans namedText valueTold s (at + 1) r → Scans readToken (tokenTold at) s at r
       unfolding tokenBehind
-      token-object-reference i f = behind r (scans-map (referenceOf objectRef) (λ l s. rw i) (λ x next. refl) f)
+      token-reference o f =
+          behind r
+          (⊎-elim (λ i. scans-map (referenceOf variableRef) (λ l s. rw i) (λ x next. refl) f) (λ i. scans-map (referenceOf objectRef) (λ l s. rw i) (λ x next. refl) f) o)
 
-      pub token-variable-reference : b ≡ tag Kind.variableReference → Scans namedText valueTold s (at + 1) r → Scans readToken (tokenTold at) s at r
-      unfolding tokenBehind
-      token-variable-reference i f = behind r (scans-map (referenceOf variableRef) (λ l s. rw i) (λ x next. refl) f)
-
-      pub token-scalar : (b ≡ byte "}" → ⊥) → (b ≡ tag Kind.array → ⊥) → (b ≡ tag Kind.object → ⊥) → (b ≡ tag Kind.objectReference → ⊥) → (b ≡ tag Kind.variableReference → ⊥)
+      pub token-scalar : (b ≡ byte "}" → ⊥) → (b ≡ tag Kind.array → ⊥) → (b ≡ tag Kind.object → ⊥) → ((b ≡ tag Kind.variableReference) ⊎ (b ≡ tag Kind.objectReference) → ⊥)
           → Scans (scalarBehind b) (scalarTold (at + 1)) s (at + 1) r → Scans readToken (tokenTold at) s at r
       unfolding tokenBehind
-      token-scalar c a o p q f =
-          behind r (scans-map scalar (λ l s. rw (tokenBehind, ne-eqb b 125 c, ne-eqb b 97 a, ne-eqb b 79 o, ne-eqb b 114 p, ne-eqb b 82 q)) (λ x next. refl) f)
+      token-scalar c a o p f =
+          behind r (scans-map scalar (λ l s. rw (tokenBehind, ne-eqb b 125 c, ne-eqb b 97 a, ne-eqb b 79 o, ne-eqb b 114 (λ i. p (inr i)), ne-eqb b 82 (λ i. p (inl i)))) (λ x next. refl) f)

@@ -2,7 +2,7 @@
 use Prim.Native.Nat.{ℕ, _≤_, _<_}
 use native.Mathlib.Omega.{arith}
 use mathlib.Core.Path.{_≡_, refl, sym, ap, ap₂, _∙_}
-use mathlib.Core.List.{List, [], _∷_, _++_, map}
+use mathlib.Core.List.{List, [], _∷_, _++_, map, map-append}
 use lib.ListN.{length}
 use Rattle.format.specs.Bytes.{byte}
 use Rattle.format.specs.Kind.{tag}
@@ -16,7 +16,8 @@ use Rattle.format.proofs.Fronts.{number-front, scalar-front, container-front}
 use Rattle.format.proofs.NormalForm.{canonicalPairs, count-canonical}
 use Rattle.scanner.specs.Scans.{scalarBehind}
 use Rattle.scanner.proofs.Printed.{named-printed, array-printed, object-printed, scalarKind, scalar-tagged, scalar-printed, behindTag}
-use Rattle.editor.specs.Tokens.{Token, scalar, reference, opening, closing, keyScalar, tokens, tokensIn, writeToken, writeTokens, canonicalToken, TokenFits, AllFit, tokenBehind, readToken}
+use Rattle.editor.specs.Tokens.{Token, scalar, reference, opening, closing, tokenBehind, readToken}
+use Rattle.editor.proofs.TokenLists.{keyScalar, tokens, tokensIn, writeToken, writeTokens, canonicalToken, TokenFits, AllFit}
 
 -- ---- a plan is its tokens
 
@@ -44,10 +45,6 @@ mutual
 
 -- ---- the tokens of canonical text are the canonical tokens
 
-map-append : (xs ys : List Token) → map canonicalToken (xs ++ ys) ≡ map canonicalToken xs ++ map canonicalToken ys
-map-append [] ys = refl
-map-append (x ∷ xs) ys = ap {B = List Token} (λ ts. canonicalToken x ∷ ts) (map-append xs ys)
-
 key-canonical : (k : Key) → scalar (keyScalar (canonicalKey k)) ≡ canonicalToken (scalar (keyScalar k))
 key-canonical (intKey x) = refl
 key-canonical (stringKey q) = refl
@@ -60,12 +57,12 @@ mutual
   tokens-canonical (ref r) = refl
   tokens-canonical (branch h ps) =
       ap₂ (λ (n : ℕ) (ts : List Token). opening (canonicalHead h) n ∷ ts) (count-canonical ps)
-      (ap (λ (ts : List Token). ts ++ (closing ∷ [])) (tokensIn-canonical ps) ∙ sym (map-append (tokensIn ps) (closing ∷ [])))
+      (ap (λ (ts : List Token). ts ++ (closing ∷ [])) (tokensIn-canonical ps) ∙ sym (map-append canonicalToken (tokensIn ps) (closing ∷ [])))
 
   tokensIn-canonical : (ps : Values) → tokensIn (canonicalPairs ps) ≡ map canonicalToken (tokensIn ps)
   tokensIn-canonical none = refl
   tokensIn-canonical (pair k v ps) =
-      ap₂ {C = List Token} _∷_ (key-canonical k) (ap₂ _++_ (tokens-canonical v) (tokensIn-canonical ps) ∙ sym (map-append (tokens v) (tokensIn ps)))
+      ap₂ {C = List Token} _∷_ (key-canonical k) (ap₂ _++_ (tokens-canonical v) (tokensIn-canonical ps) ∙ sym (map-append canonicalToken (tokens v) (tokensIn ps)))
 
 -- ---- the tokens of a valid plan fit
 

@@ -9,11 +9,11 @@ use Rattle.decimal.specs.Digits.{decimal}
 use Rattle.decimal.specs.Complement.{isNegative, magnitude}
 use Rattle.format.specs.Bytes.{byte}
 
--- the shortest text of the integer of a word
 abbrev pub withSign : (negative : Bool) → List ℕ → List ℕ
 withSign true t = byte "-" ∷ t
 withSign false t = t
 
+-- the shortest text of the integer of a word
 unfoldable pub signedDigits : (word : ℕ) → List ℕ
 signedDigits w = withSign (isNegative 64 w) (decimal (magnitude 64 w))
 

@@ -51,8 +51,12 @@ abbrev pub outputAfter : Answer (List ℕ) → (out : List ℕ) → List ℕ
 outputAfter (ok bytes) out = over bytes out
 outputAfter (refused n p) out = out
 
--- the answer, every word of the table and every byte of the output, for every input
-pub record Writes (bytes : Answer (List ℕ)) (source before after out out′ : List ℕ) (r : Writing) : Type 0 where
-  pub answer : answerOf r ≡ lengthOf bytes
+-- every word of the table and every byte of the output
+pub record Leaves (bytes : Answer (List ℕ)) (source before after out out′ : List ℕ) : Type 0 where
   pub table : after ≡ tableWritten bytes source before
   pub output : out′ ≡ outputAfter bytes out
+
+-- demands 1 and 2 for a service that writes: the answer, and all that it leaves, for every input
+pub record Writes (bytes : Answer (List ℕ)) (source before after out out′ : List ℕ) (r : Writing) : Type 0 where
+  pub answer : answerOf r ≡ lengthOf bytes
+  pub leaves : Leaves bytes source before after out out′

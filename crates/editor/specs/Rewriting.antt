@@ -7,15 +7,15 @@ use Rattle.format.specs.Fits.{Valid}
 use Rattle.format.specs.Canonical.{canonical}
 use Rattle.editor.specs.Output.{Puts}
 
--- a syntax that the source is the print of
-pub record Is (source : List ℕ) (v : Value) : Type 0 where
+-- the valid syntax that the source is the print of
+pub record IsPrint (source : List ℕ) (v : Value) : Type 0 where
   pub printed : source ≡ print v
   pub valid : Valid v
 
-pub record Accepted (source : List ℕ) : Type 0 where
+pub record ValidSource (source : List ℕ) : Type 0 where
   pub value : Value
-  pub is : Is source value
+  pub is : IsPrint source value
 
 -- its canonical text in the output, as far as there is room, and its length
-abbrev pub Retypes : (source out : List ℕ) → (written : ℕ) → (out′ : List ℕ) → Type 0
-Retypes source out n out′ = (v : Value) → Is source v → Puts (print (canonical v)) 0 out n out′
+abbrev pub Canonicalizes : (source out : List ℕ) → (written : ℕ) → (out′ : List ℕ) → Type 0
+Canonicalizes source out n out′ = (v : Value) → IsPrint source v → Puts (print (canonical v)) 0 out n out′

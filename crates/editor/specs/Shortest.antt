@@ -59,5 +59,6 @@ pub record Bounds (s : List ℕ) (at : ℕ) (x : Text) : Type 0 where
   pub on : at < x .next
   pub inside : x .next ≤ length s
   pub more : (getD s at 0 ≡ byte "}" → ⊥) → at + 2 ≤ x .next
+  pub int : getD s at 0 ≡ tag Kind.int → at + 4 ≤ x .next
   pub string : getD s at 0 ≡ tag Kind.string → QuotedBounds at x
   pub object : getD s at 0 ≡ tag Kind.object → QuotedBounds at x

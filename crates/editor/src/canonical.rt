@@ -2,12 +2,12 @@
 use crate::shortest::shortest;
 use crate::token::token;
 use scanner::Scan;
-ghost use Rattle.editor.specs.Rewriting.{Accepted, Retypes};
+ghost use Rattle.editor.specs.Rewriting.{ValidSource, Canonicalizes};
 
 // Writes the canonical text as far as there is room; its length.
 pub(crate) fn write_canonical(source: &[u8], out: &mut [u8]) -> usize
-    requires { ⌜ Accepted (now source) ⌝ }
-    ensures { λ r. ⌜ Retypes (now (source .entry)) (now (out .entry)) r (now (out .exit)) ⌝ }
+    requires { ⌜ ValidSource (now source) ⌝ }
+    ensures { λ r. ⌜ Canonicalizes (now (source .entry)) (now (out .entry)) r (now (out .exit)) ⌝ }
 {
     let mut at = 0;
     let mut w = 0;

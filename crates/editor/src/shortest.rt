@@ -30,7 +30,7 @@ fn numbered(
 
 // An integer: its tag and its colon, the shortest text of a word, and the semicolon.
 fn signed(source: &[u8], at: usize, word: u64, next: usize, out: &mut [u8], w: usize) -> usize
-    requires { ⌜ (at + 2 ≤ next) × (next ≤ length (now source)) × (length (now source) < 2 ^ 32) × (w < 2 ^ 37) ⌝ }
+    requires { ⌜ (at + 4 ≤ next) × (next ≤ length (now source)) × (length (now source) < 2 ^ 32) × (w < 2 ^ 37) ⌝ }
     ensures { λ r. ⌜ Puts (signedText (now (source .entry)) at word next) w (now (out .entry)) r (now (out .exit)) ⌝ }
 {
     let start = copy(source, at, at + 2, out, w);

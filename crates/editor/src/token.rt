@@ -26,8 +26,7 @@ pub(crate) fn token(source: &[u8], at: usize) -> Scan
         }),
         Kind::ARRAY => array(source, at + 1),
         Kind::OBJECT => object(source, at + 1),
-        Kind::OBJECT_REFERENCE => named(source, at + 1),
-        Kind::VARIABLE_REFERENCE => named(source, at + 1),
+        Kind::OBJECT_REFERENCE | Kind::VARIABLE_REFERENCE => named(source, at + 1),
         _ => scalar(source, at + 1, tag),
     }
 }

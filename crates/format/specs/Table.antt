@@ -120,9 +120,10 @@ tableOf v = table (targetOf v) 0 0 1 v
 abbrev pub withoutOffset : Node → Node
 withoutOffset n = record { tag = n .tag; ordinal = n .ordinal; content = elim (hasText (n .tag)) [ true ↦ 0 | false ↦ n .content ]; size = n .size; link = n .link; end = n .end }
 
--- two tables of the same nodes but for text offsets, with the same words behind them
-pub record SameButOffsets (one other : List ℕ) : Type 0 where
+-- two tables of so many nodes, the same but for text offsets, with the same words behind them
+pub record SameButOffsets (count : ℕ) (one other : List ℕ) : Type 0 where
   pub nodes : List Node
+  pub counted : length nodes ≡ count
   pub others : List Node
   pub rest : List ℕ
   pub first : one ≡ flat nodes ++ rest

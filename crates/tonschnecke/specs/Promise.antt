@@ -4,7 +4,7 @@ use mathlib.Core.List.{List}
 use Prim.Native.Nat.{ℕ}
 use Rattle.format.specs.Answer.{Answer, ok, refused}
 use Rattle.format.specs.Reading.{capacityOf, Counts, answer, tableAfter}
-use Rattle.editor.specs.Promise.{lengthOf, tableWritten, outputAfter}
+use Rattle.editor.specs.Promise.{lengthOf, Leaves}
 use Rattle.tonschnecke.specs.declared.reading.TonReading.{TonReading}
 use Rattle.tonschnecke.specs.declared.writing.TonWriting.{TonWriting}
 
@@ -18,7 +18,7 @@ pub record Reads (source before after : List ℕ) (r : TonReading) : Type 0 wher
   pub answer : r ≡ readingOf (answer (capacityOf before) source)
   pub table : after ≡ tableAfter source before
 
--- no refusal has number 0, so code 0 says that the bytes are written
+-- and code 0 says that the bytes are written
 unfoldable pub writingOf : Answer ℕ → TonWriting
 writingOf (ok length) = record { code = 0; at = 0; length = length }
 writingOf (refused code at) = record { code = code; at = at; length = 0 }
@@ -26,5 +26,4 @@ writingOf (refused code at) = record { code = code; at = at; length = 0 }
 -- the same for a service that writes a plan: the whole struct, every word of the table, every byte of the output
 pub record Writes (bytes : Answer (List ℕ)) (source before after out out′ : List ℕ) (r : TonWriting) : Type 0 where
   pub answer : r ≡ writingOf (lengthOf bytes)
-  pub table : after ≡ tableWritten bytes source before
-  pub output : out′ ≡ outputAfter bytes out
+  pub leaves : Leaves bytes source before after out out′

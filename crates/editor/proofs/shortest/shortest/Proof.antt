@@ -7,11 +7,15 @@ use borrow.Author.Needs.{needs}
 use Rattle.editor.proofs.shortest.shortest.Statement.{statement}
 use Rattle.editor.proofs.shortest.shortest.Tie as tie
 
+-- all other tags first: a tag that is matched no more falls to them, and this says why that is wrong
+returns-6 : tie.Need-returns-6
+returns-6 c = spelled.spelled-copied _ _ _ _ _ _ _ _ refl (c .before .before .before .before .match .rest .0 .0 .0 .0 .1) (c .before .before .before .before .match .rest .0 .0 .0 .1) (c .before .before .before .before .match .rest .0 .0 .1) (c .before .before .before .before .match .rest .0 .1) (c .before .before .before .before .match .rest .1) (c .before .before .copy .ensures .0)
+
 shared-slice-read-tag : tie.Need-shared-slice-read-tag
 shared-slice-read-tag c = omega (arith, c .before .before .before .pre .0 .on, c .before .before .before .pre .0 .inside)
 
 signed-requires : tie.Need-signed-requires
-signed-requires c κs = omega (arith, c .before .before .before .before .before .pre .0 .small, c .before .before .before .before .before .pre .0 .on, c .before .before .before .before .before .pre .0 .inside, c .before .before .before .before .before .pre .0 .more (λ e. omega (arith, e, c .before .match .keys1)), c .before .before .before .before .before .pre .1)
+signed-requires c κs = omega (arith, c .before .before .before .before .before .pre .0 .small, c .before .before .before .before .before .pre .0 .inside, c .before .before .before .before .before .pre .0 .int (c .before .match .keys1), c .before .before .before .before .before .pre .1)
 
 sub-numbered : tie.Need-sub-numbered
 sub-numbered c = omega (arith, c .before .before .before .before .pre .0 .string (c .match .keys2) .from, c .before .before .before .before .pre .0 .string (c .match .keys2) .to)
@@ -69,9 +73,6 @@ returns-5 c = spelled.spelled-reference _ _ _ _ _ _ _ _ refl (c .before .before 
 
 same-length-6 : tie.Need-same-length-6
 same-length-6 c = search needs
-
-returns-6 : tie.Need-returns-6
-returns-6 c = spelled.spelled-copied _ _ _ _ _ _ _ _ refl (c .before .before .before .before .match .rest .0 .0 .0 .0 .1) (c .before .before .before .before .match .rest .0 .0 .0 .1) (c .before .before .before .before .match .rest .0 .0 .1) (c .before .before .before .before .match .rest .0 .1) (c .before .before .before .before .match .rest .1) (c .before .before .copy .ensures .0)
 
 pub shortest-spec : {M : Type 1} → statement M
 shortest-spec =

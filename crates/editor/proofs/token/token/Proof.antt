@@ -1,7 +1,7 @@
 -- `editor::token::token` meets its contract. Assumes nothing.
 use native.Mathlib.Omega.{arith}
-use Rattle.editor.proofs.Scanned as scanned
 use mathlib.Core.Path.{refl}
+use Rattle.editor.proofs.Scanned as scanned
 use borrow.Author.Needs.{needs}
 use Rattle.editor.proofs.token.token.Statement.{statement}
 use Rattle.editor.proofs.token.token.Tie as tie
@@ -33,12 +33,6 @@ add-named c = search needs
 named-requires : tie.Need-named-requires
 named-requires c κs = search needs
 
-add-named-2 : tie.Need-add-named-2
-add-named-2 c = search needs
-
-named-requires-2 : tie.Need-named-requires-2
-named-requires-2 c κs = search needs
-
 add-scalar : tie.Need-add-scalar
 add-scalar c = search needs
 
@@ -55,13 +49,10 @@ returns-4 : tie.Need-returns-4
 returns-4 c = scanned.token-object _ _ _ (omega (arith, c .before .before .before .if1 .left)) refl _ (c .before .match .keys3) (c .object .ensures .scans)
 
 returns-5 : tie.Need-returns-5
-returns-5 c = scanned.token-object-reference _ _ _ (omega (arith, c .before .before .before .if1 .left)) refl _ (c .before .match .keys4) (c .named .ensures .scans)
+returns-5 c = scanned.token-reference _ _ _ (omega (arith, c .before .before .before .if1 .left)) refl _ (c .before .match .keys4) (c .named .ensures .scans)
 
 returns-6 : tie.Need-returns-6
-returns-6 c = scanned.token-variable-reference _ _ _ (omega (arith, c .before .before .before .if1 .left)) refl _ (c .before .match .keys5) (c .named2 .ensures .scans)
-
-returns-7 : tie.Need-returns-7
-returns-7 c = scanned.token-scalar _ _ _ (omega (arith, c .before .before .before .if1 .left)) refl _ (c .before .match .rest .0 .0 .0 .0 .1) (c .before .match .rest .0 .0 .0 .1) (c .before .match .rest .0 .0 .1) (c .before .match .rest .0 .1) (c .before .match .rest .1) (c .scalar .ensures .scans)
+returns-6 c = scanned.token-scalar _ _ _ (omega (arith, c .before .before .before .if1 .left)) refl _ (c .before .match .rest .0 .0 .0 .1) (c .before .match .rest .0 .0 .1) (c .before .match .rest .0 .1) (c .before .match .rest .1) (c .scalar .ensures .scans)
 
 pub token-spec : {M : Type 1} → statement M
 token-spec =
@@ -76,13 +67,10 @@ token-spec =
     object-requires
     add-named
     named-requires
-    add-named-2
-    named-requires-2
     add-scalar
     scalar-requires
     returns-2
     returns-3
     returns-4
     returns-5
-    returns-6
-    returns-7)
+    returns-6)

@@ -12,7 +12,7 @@ use Rattle.tonschnecke.proofs.writing.ton_canonicalize.Tie as tie
 
 -- the editor's promise, of the struct that its answer becomes
 passed-on : {bytes : Answer (List ℕ)} {source before after out out′ : List ℕ} {a : Writing} → editor.Writes bytes source before after out out′ a → Writes bytes source before after out out′ (writingOf (editor.answerOf a))
-passed-on writes = record { answer = ap writingOf (writes .answer); table = writes .table; output = writes .output }
+passed-on writes = record { answer = ap writingOf (writes .answer); leaves = writes .leaves }
 
 canonicalize-requires : tie.Need-canonicalize-requires
 canonicalize-requires c κs = search needs

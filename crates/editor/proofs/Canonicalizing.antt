@@ -1,4 +1,4 @@
--- THE THEOREMS OF RETYPING, over the definitions that `canonicalize` equals. Assumes nothing.
+-- THE THEOREMS OF CANONICAL TEXT AS A SERVICE, over the definitions that `canonicalize` equals. Assumes nothing.
 use Prim.Native.Nat.{ℕ, _*_, _/_, _≤_, _<_}
 use native.Mathlib.Omega.{arith}
 use mathlib.Core.Path.{_≡_, refl, sym, ap, ap₂, _∙_, subst}
@@ -31,7 +31,7 @@ use Rattle.editor.specs.Promise.{fitsIn, withRoom, canonicalBytes, table
 -- ---- what is written, and of what
 
 -- the plan read, and the bytes written
-pub record Retyped (capacity room : ℕ) (source bytes : List ℕ) : Type 0 where
+pub record Canonicalized (capacity room : ℕ) (source bytes : List ℕ) : Type 0 where
   pub value : Value
   pub read : read capacity source ≡ ok value
   pub text : bytes ≡ print (canonical value)
@@ -43,27 +43,27 @@ room-of room text bytes e =
     let same : text ≡ bytes = ok-same (a .2) in
     (sym same, omega (arith, ap length same, leb→le (length text) room (and-left (leb (length text) room) (leb (length text) sourceLimit) (require-ok (fitsIn room (length text)) 14 0 (a .0) (a .1)))))
 
-pub retyped : (capacity room : ℕ) (source bytes : List ℕ) → canonicalBytes capacity room source ≡ ok bytes → Retyped capacity room source bytes
+pub canonicalized : (capacity room : ℕ) (source bytes : List ℕ) → canonicalBytes capacity room source ≡ ok bytes → Canonicalized capacity room source bytes
 unfolding canonicalBytes
-retyped capacity room source bytes e =
+canonicalized capacity room source bytes e =
     let a = bind-ok (read capacity source) _ bytes e in
     let r = room-of room (print (canonical (a .0))) bytes (a .2) in
     record { value = a .0; read = a .1; text = r .0; fits = r .1 }
 
 -- of a plan that is read, 14 is the only refusal, and only where its canonical text is too long for the output
-canonical-text : (capacity room : ℕ) (source : List ℕ) (v : Value) → read capacity source ≡ ok v → canonicalBytes capacity room source ≡ withRoom room (print (canonical v))
+by-value : (capacity room : ℕ) (source : List ℕ) (v : Value) → read capacity source ≡ ok v → canonicalBytes capacity room source ≡ withRoom room (print (canonical v))
 unfolding canonicalBytes
-canonical-text capacity room source v e = rw e
+by-value capacity room source v e = rw e
 
 module _ (capacity room : ℕ) (source : List ℕ) (v : Value) (e : read capacity source ≡ ok v) where
-  no-longer : (length (print (canonical v)) ≤ length source) × (length (print (canonical v)) ≤ sourceLimit)
+  pub no-longer : (length (print (canonical v)) ≤ length source) × (length (print (canonical v)) ≤ sourceLimit)
   no-longer =
       let p = read-ok capacity source v e in
       (omega (arith, canonical-shorter v, ap length (p .printed)), omega (arith, canonical-shorter v, p .fits .valid .short))
 
   -- where there is room for it, it is written
   pub written-where-room : length (print (canonical v)) ≤ room → canonicalBytes capacity room source ≡ ok (print (canonical v))
-  written-where-room h = canonical-text capacity room source v e ∙ rw (le-leb (length (print (canonical v))) room h, le-leb (length (print (canonical v))) sourceLimit (no-longer .1))
+  written-where-room h = by-value capacity room source v e ∙ rw (le-leb (length (print (canonical v))) room h, le-leb (length (print (canonical v))) sourceLimit (no-longer .1))
 
   -- so an output as long as the plan is always enough
   pub enough-room : length source ≤ room → canonicalBytes capacity room source ≡ ok (print (canonical v))
@@ -71,13 +71,13 @@ module _ (capacity room : ℕ) (source : List ℕ) (v : Value) (e : read capacit
 
   -- and where there is none, it is 14 at 0
   pub refused-without-room : room < length (print (canonical v)) → canonicalBytes capacity room source ≡ refused 14 0
-  refused-without-room h = canonical-text capacity room source v e ∙ rw (lt-leb (length (print (canonical v))) room h)
+  refused-without-room h = by-value capacity room source v e ∙ rw (lt-leb (length (print (canonical v))) room h)
 
 -- ---- demand 2
 
 module _ (capacity room : ℕ) (source bytes : List ℕ) (e : canonicalBytes capacity room source ≡ ok bytes) where
-  abbrev r : Retyped capacity room source bytes
-  r = retyped capacity room source bytes e
+  abbrev r : Canonicalized capacity room source bytes
+  r = canonicalized capacity room source bytes e
 
   abbrev v : Value
   v = r .value
@@ -86,7 +86,7 @@ module _ (capacity room : ℕ) (source bytes : List ℕ) (e : canonicalBytes cap
   plan = read-ok capacity source v (r .read)
 
   -- the text written is a plan: it is read as the canonical syntax of the plan given
-  pub read-again : read capacity bytes ≡ ok (canonical (retyped capacity room source bytes e .value))
+  pub read-again : read capacity bytes ≡ ok (canonical (canonicalized capacity room source bytes e .value))
   read-again = ap (read capacity) (r .text) ∙ canonical-read capacity v (plan .fits)
 
   -- CANONICAL TEXT IS NEVER LONGER THAN ITS PLAN
@@ -102,9 +102,9 @@ module _ (capacity room : ℕ) (source bytes : List ℕ) (e : canonicalBytes cap
     is = canonical-meaning v ∙ one-meaning source (meaning v) m (record { syntax = v; valid = plan .fits .valid; printed = plan .printed; is = refl }) s;
   }
 
-  -- RETYPING IT AGAIN GIVES THE SAME BYTES
-  pub retyped-again : canonicalBytes capacity room bytes ≡ ok bytes
-  retyped-again =
+  -- CANONICALIZING IT AGAIN GIVES THE SAME BYTES
+  pub canonical-again : canonicalBytes capacity room bytes ≡ ok bytes
+  canonical-again =
       let same : print (canonical (canonical v)) ≡ bytes = ap print (canonical-twice v (plan .fits .valid)) ∙ sym (r .text) in
       written-where-room capacity room bytes (canonical v) read-again (omega (arith, ap length same, r .fits)) ∙ ap ok same
 
@@ -118,8 +118,8 @@ one-text c c′ n n′ source source′ bytes bytes′ e f m m′ s s′ = (
   where
     same : m ≡ m′ → bytes ≡ bytes′
     same i =
-        let r = retyped c n source bytes e in
-        let r′ = retyped c′ n′ source′ bytes′ f in
+        let r = canonicalized c n source bytes e in
+        let r′ = canonicalized c′ n′ source′ bytes′ f in
         let p = read-ok c source (r .value) (r .read) in
         let p′ = read-ok c′ source′ (r′ .value) (r′ .read) in
         let a : meaning (r .value) ≡ m = one-meaning source (meaning (r .value)) m (accepted-means c source (r .value) (r .read)) s in
@@ -127,18 +127,19 @@ one-text c c′ n n′ source source′ bytes bytes′ e f m m′ s s′ = (
         r .text ∙ one-canonical-text (r .value) (r′ .value) (p .fits .valid) (p′ .fits .valid) .1 (a ∙ i ∙ sym a′) ∙ sym (r′ .text)
 
 -- THE TABLE IS THE PLAN'S BUT FOR TEXT OFFSETS
-pub same-table : (room : ℕ) (source bytes t : List ℕ) → canonicalBytes (capacityOf t) room source ≡ ok bytes → SameButOffsets (tableAfter source t) (tableWritten (ok bytes) source t)
-same-table room source bytes t e =
-    let r = retyped (capacityOf t) room source bytes e in
-    let v : Value = r .value in
+pub same-table : (room : ℕ) (source bytes t : List ℕ) (v : Value) → read (capacityOf t) source ≡ ok v → canonicalBytes (capacityOf t) room source ≡ ok bytes
+    → SameButOffsets (nodes v) (tableAfter source t) (tableWritten (ok bytes) source t)
+same-table room source bytes t v is-read e =
+    let one : canonicalized (capacityOf t) room source bytes e .value ≡ v = ok-same (sym (canonicalized (capacityOf t) room source bytes e .read) ∙ is-read) in
     let t₁ : List ℕ = tableAfter source t in
     let rest : List ℕ = drop (nodes v * width) t in
-    let first : t₁ ≡ flat (tableOf v) ++ rest = after-accepted source t v (r .read) in
+    let first : t₁ ≡ flat (tableOf v) ++ rest = after-accepted source t v is-read in
     let capacity : capacityOf t₁ ≡ capacityOf t = ap (λ (n : ℕ). n / width) (after-length source t) in
     let size : length (flat (tableOf v)) ≡ nodes v * width = flat-length (tableOf v) ∙ ap (λ (n : ℕ). n * width) (tableOf-length v) in
-    let again : read (capacityOf t₁) bytes ≡ ok (canonical v) = ap (λ (c : ℕ). read c bytes) capacity ∙ read-again (capacityOf t) room source bytes e in
+    let again : read (capacityOf t₁) bytes ≡ ok (canonical v) = ap (λ (c : ℕ). read c bytes) capacity ∙ read-again (capacityOf t) room source bytes e ∙ ap (λ (u : Value). ok (canonical u)) one in
     record {
       nodes = tableOf v;
+      counted = tableOf-length v;
       others = tableOf (canonical v);
       rest = rest;
       first = first;
