@@ -61,9 +61,9 @@ ton_reading ton_read(const uint8_t *source, size_t source_len, uint64_t *table, 
 
 /* What a function that writes a plan answers.
  * Written: code is 0 and at is 0; length is that of the bytes written.
- * Refused: code is 1 to 10, as reading refuses the source, or
+ * Refused: code is 1 to 10 with its position, as ton_read refuses the source; or, where reading accepts it,
  *    14   the bytes to write exceed out_len, or 65,536                      0
- * and at the position; length is 0. */
+ * and length is 0. */
 typedef struct {
     uint64_t code, at, length;
 } ton_writing;

@@ -36,8 +36,8 @@ pub(crate) fn integer(word: u64, out: &mut [u8], w: usize) -> usize
     ensures { λ r. ⌜ r ≤ w + 21 ⌝ }
 {
     let signed = decimal::signed_of(word);
-    let negative = signed.negative;
     let magnitude = signed.magnitude;
+    let negative = signed.negative;
     if negative {
         decimal::put(out, w, 0, b'-');
         return number(magnitude, out, w + 1);

@@ -3,10 +3,10 @@
 //! nothing.
 
 mod keys;
-mod retype;
+mod canonicalize;
 mod text;
 
-pub use retype::canonicalize;
+pub use canonicalize::canonicalize;
 
 use crate::library::Reading;
 use keys::Keys;

@@ -5,7 +5,7 @@ use crate::call::Call;
 
 pub fn cases() -> Vec<Case> {
     let texts = [integers(), keys(), numbers(), copied(), wholes(), lengths()].concat();
-    texts.into_iter().flat_map(retyped).collect()
+    texts.into_iter().flat_map(canonicalized).collect()
 }
 
 /// "Retyping: reading, then 14": what reading refuses is refused alike with any output.
@@ -28,7 +28,7 @@ type Texts = (Vec<u8>, Vec<u8>);
 
 /// The plan with outputs that suffice, and with the two that are refused: one byte too small, and
 /// empty.
-fn retyped((source, text): Texts) -> Vec<Case> {
+fn canonicalized((source, text): Texts) -> Vec<Case> {
     let length = text.len();
     let into = |out_len: usize| Case {
         source: source.clone(),

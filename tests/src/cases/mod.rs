@@ -40,7 +40,7 @@ pub struct Case {
 /// Room for more nodes than any case has.
 const AMPLE_TABLE: usize = 1_000 * WORDS;
 
-/// Every case of the paper and of the readings.
+/// Every case of the paper and of the readings, and the canonical texts.
 pub fn all() -> Vec<Case> {
     let reading = [paper::cases(), readings::cases(), order::cases()].concat();
     let refused = canonical::refused_alike(&reading);
