@@ -12,7 +12,7 @@ use Rattle.decimal.specs.Digits.{decimal}
 use Rattle.decimal.specs.Promise.{Stored, SignedOf}
 use Rattle.decimal.specs.declared.Signed.{Signed}
 use Rattle.decimal.proofs.Stores.{sets-append}
-use Rattle.editor.specs.Output.{withSign, signedDigits, Puts}
+use Rattle.editor.specs.Output.{withSign, signedDigits, Within, Puts}
 
 -- ---- texts
 
@@ -22,6 +22,20 @@ puts-then {t} {u} {w} {out} {e} x y = record {
   end = omega (arith, x .end, y .end, length-append t u);
   text = y .text ∙ rw (x .text) (sets-append t u out w e (x .end));
 }
+
+-- the same text
+pub puts-as : {t u : List ℕ} {w : ℕ} {out : List ℕ} {e : ℕ} {out′ : List ℕ} → t ≡ u → Puts u w out e out′ → Puts t w out e out′
+puts-as {w = w} {out} {e} {out′} i p = subst (λ (l : List ℕ). Puts l w out e out′) (sym i) p
+
+pub within-as : {t u : List ℕ} {w : ℕ} → t ≡ u → Within t w → Within u w
+within-as {w = w} i h = subst (λ (l : List ℕ). Within l w) i h
+
+-- what is within the limit with what follows it is within it, and so is what follows
+pub within-first : (t u : List ℕ) (w : ℕ) → Within (t ++ u) w → Within t w
+within-first t u w h = record { low = omega (arith, h .low, length-append t u) }
+
+pub within-then : {t u : List ℕ} {w : ℕ} {out : List ℕ} {e : ℕ} {out₁ : List ℕ} → Within (t ++ u) w → Puts t w out e out₁ → Within u e
+within-then {t} {u} h p = record { low = omega (arith, h .low, p .end, length-append t u) }
 
 pub puts-stored : {w n : ℕ} {out : List ℕ} {k : ℕ} {out′ : List ℕ} → Stored out w n k out′ → Puts (decimal n) w out (w + k) out′
 puts-stored s = record { end = rw (s .length); text = s .output }
@@ -85,3 +99,11 @@ module _ (word : ℕ) (x : Signed) (h : SignedOf 64 word x) (w : ℕ) (out : Lis
   puts-negative {out₁} n s p =
       let minus : Puts (45 ∷ []) w out (w + 1) out₁ = record { end = refl; text = s ∙ rw (add-zero w) } in
       signed-as (45 ∷ decimal (x .magnitude)) (ap (λ (b : Bool). withSign b (decimal (x .magnitude))) n) (puts-then minus p)
+
+  pub within-positive : x .negative ≡ false → Within (signedDigits word) w → Within (decimal (x .magnitude)) w
+  within-positive n h = subst (λ (u : List ℕ). Within u w) (sym digits-are ∙ ap (λ (b : Bool). withSign b (decimal (x .magnitude))) n) h
+
+  pub within-negative : x .negative ≡ true → Within (signedDigits word) w → Within (decimal (x .magnitude)) (w + 1)
+  within-negative n h =
+      let k : Within (45 ∷ decimal (x .magnitude)) w = subst (λ (u : List ℕ). Within u w) (sym digits-are ∙ ap (λ (b : Bool). withSign b (decimal (x .magnitude))) n) h in
+      record { low = omega (arith, k .low) }

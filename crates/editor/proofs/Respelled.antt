@@ -15,7 +15,7 @@ use Rattle.format.specs.Bytes.{byte}
 use Rattle.format.specs.Kind.{Kind, tag}
 use Rattle.format.specs.Syntax.{null, bool, int, float, string, array, object, Spelling, Sign, unsigned, plus, minus, Literal, Quoted, Container, RefKind, objectRef, variableRef, refKind, writeNumber, writeSign}
 use Rattle.format.specs.Keys.{signed, integer}
-use Rattle.format.specs.Limits.{sourceLimit, integerLimit}
+use Rattle.format.specs.Limits.{integerLimit}
 use Rattle.format.specs.Table.{word}
 use Rattle.format.specs.Canonical.{shortest, shortestSign}
 use Rattle.format.proofs.Fronts.{sign-front, number-front, number-length, quoted-length}
@@ -181,14 +181,13 @@ module _ (s : List ℕ) (at : ℕ) (x : Text) where
 
 -- ---- what is copied stands in the source
 
-module _ (s : List ℕ) (at : ℕ) (x : Text) (small : length s ≤ sourceLimit) where
+module _ (s : List ℕ) (at : ℕ) (x : Text) where
   bounded : (t : Token) → Stands s at t x → (b : ℕ) (r : List ℕ) → drop at s ≡ b ∷ r → ((b ≡ byte "}" → ⊥) → 2 ≤ length (writeToken t []))
       → (b ≡ tag Kind.int → 4 ≤ length (writeToken t [])) → (b ≡ tag Kind.string → QuotedBounds at x) → (b ≡ tag Kind.object → QuotedBounds at x) → Bounds s at x
   bounded t st b r e more num str obj =
       let tagged : getD s at 0 ≡ b = first-byte s at b r e in
       let next : x .next ≡ at + length (writeToken t []) = ends s at x t st in
       record {
-        small = small;
         on = omega (arith, token-some t []);
         inside = st .inside;
         more = λ n. omega (arith, more (λ i. n (tagged ∙ i)));

@@ -18,7 +18,7 @@ use Rattle.scanner.specs.declared.Text.{Text}
 use Rattle.scanner.specs.declared.Scan.{Scan}
 use Rattle.scanner.specs.Scans.{Found, Scans}
 use Rattle.scanner.proofs.Numbers.{kept, unfit-of}
-use Rattle.editor.specs.Output.{Puts}
+use Rattle.editor.specs.Output.{Within, Puts}
 use Rattle.editor.specs.Shortest.{shortestText, Bounds}
 use Rattle.editor.specs.Tokens.{Token, readToken, tokenTold}
 use Rattle.editor.proofs.TokenLists.{tokens, writeToken, writeTokens, canonicalToken, AllFit}
@@ -88,11 +88,8 @@ never-unfit s at c [] fit e h f = omega (arith, ap length e, length-drop at s)
 never-unfit s at c (t ∷ ts) fit e h f = not-both (sym (f 0) ∙ ap (readToken 0) e ∙ token-printed 0 t (writeTokens ts []) (fit .0))
 
 module _ {s out₀ : List ℕ} {at w : ℕ} {out : List ℕ} (r : Rewritten s out₀ at w out) where
-  pub short : length s ≤ sourceLimit
-  short = omega (arith, r .is .valid .short, ap length (r .is .printed))
-
   -- never longer than the plan
-  pub low : w ≤ sourceLimit
+  low : w + length (canonicalText (r .left)) ≤ sourceLimit
   low = omega (arith, r .end, canonical-shorter (r .value), r .is .valid .short)
 
   pub rewritten-all : length s ≤ at → Canonicalizes s out₀ w out
@@ -115,7 +112,22 @@ module _ {s out₀ : List ℕ} {at w : ℕ} {out : List ℕ} (r : Rewritten s ou
       next = next-of s at (r .left) x (r .fit) (r .rest) f
 
       pub bounds-next : Bounds s at x
-      bounds-next = bounds s at x short (next .token) (next .stands)
+      bounds-next = bounds s at x (next .token) (next .stands)
+
+      split : canonicalText (r .left) ≡ writeToken (canonicalToken (next .token)) [] ++ canonicalText (next .more)
+      split = ap canonicalText (next .are) ∙ token-front (canonicalToken (next .token)) [] (canonicalText (next .more))
+
+      pub within-next : Within (shortestText s at x) w
+      within-next =
+          record {
+            low = omega (
+              arith,
+              low,
+              ap length split,
+              length-append (writeToken (canonicalToken (next .token)) []) (canonicalText (next .more)),
+              ap length (respelled s at x (next .token) (next .stands)),
+            );
+          }
 
       -- one token more
       pub rewritten-more : (e : ℕ) (out′ : List ℕ) → Puts (shortestText s at x) w out e out′ → length out′ ≡ length out → Rewritten s out₀ (x .next) e out′
@@ -123,7 +135,6 @@ module _ {s out₀ : List ℕ} {at w : ℕ} {out : List ℕ} (r : Rewritten s ou
           let t : Token = next .token in
           let ts : List Token = next .more in
           let put : Puts (writeToken (canonicalToken t) []) w out e out′ = subst (λ (u : List ℕ). Puts u w out e out′) (respelled s at x t (next .stands)) p in
-          let split : canonicalText (r .left) ≡ writeToken (canonicalToken t) [] ++ canonicalText ts = ap canonicalText (next .are) ∙ token-front (canonicalToken t) [] (canonicalText ts) in
           record {
             value = r .value;
             is = r .is;

@@ -2,12 +2,13 @@
 use mathlib.Core.Path.{_≡_}
 use mathlib.Core.List.{List, _∷_}
 use mathlib.Core.Bool.{Bool, true, false}
-use Prim.Native.Nat.{ℕ, _+_}
+use Prim.Native.Nat.{ℕ, _+_, _≤_}
 use lib.ListN.{length}
 use lib.Seq.{sets}
 use Rattle.decimal.specs.Digits.{decimal}
 use Rattle.decimal.specs.Complement.{isNegative, magnitude}
 use Rattle.format.specs.Bytes.{byte}
+use Rattle.format.specs.Limits.{sourceLimit}
 
 abbrev pub withSign : (negative : Bool) → List ℕ → List ℕ
 withSign true t = byte "-" ∷ t
@@ -16,6 +17,10 @@ withSign false t = t
 -- the shortest text of the integer of a word
 unfoldable pub signedDigits : (word : ℕ) → List ℕ
 signedDigits w = withSign (isNegative 64 w) (decimal (magnitude 64 w))
+
+-- a text that ends within 65,536 bytes, as every canonical text does: no index overflows
+pub record Within (t : List ℕ) (w : ℕ) : Type 0 where
+  pub low : w + length t ≤ sourceLimit
 
 -- a text stored from index `w` on, as far as there is room, and the index behind it
 pub record Puts (t : List ℕ) (w : ℕ) (out : List ℕ) (e : ℕ) (out′ : List ℕ) : Type 0 where

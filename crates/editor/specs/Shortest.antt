@@ -9,7 +9,6 @@ use lib.Seq.{slice}
 use Rattle.decimal.specs.Digits.{decimal}
 use Rattle.format.specs.Bytes.{byte}
 use Rattle.format.specs.Kind.{Kind, tag}
-use Rattle.format.specs.Limits.{sourceLimit}
 use Rattle.scanner.specs.declared.Text.{Text}
 use Rattle.editor.specs.Output.{signedDigits}
 
@@ -55,7 +54,6 @@ pub record QuotedBounds (at : ℕ) (x : Text) : Type 0 where
   pub to : x .content + x .size + 2 ≤ x .next
 
 pub record Bounds (s : List ℕ) (at : ℕ) (x : Text) : Type 0 where
-  pub small : length s ≤ sourceLimit
   pub on : at < x .next
   pub inside : x .next ≤ length s
   pub more : (getD s at 0 ≡ byte "}" → ⊥) → at + 2 ≤ x .next

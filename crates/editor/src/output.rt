@@ -1,15 +1,14 @@
 // Texts written to a lent output. Stores past its end are lost, so that the same code measures a text and writes it.
-ghost use Prim.Native.Nat.{_+_, _≤_, _<_, _^_};
+ghost use Prim.Native.Nat.{_≤_};
 ghost use lib.ListN.{length};
 ghost use lib.Seq.{slice};
 ghost use Rattle.decimal.specs.Digits.{decimal};
-ghost use Rattle.editor.specs.Output.{signedDigits, Puts};
+ghost use Rattle.editor.specs.Output.{signedDigits, Within, Puts};
 
 // The bytes of the source from one index up to another; the index behind them.
 pub(crate) fn copy(source: &[u8], from: usize, to: usize, out: &mut [u8], w: usize) -> usize
-    requires { ⌜ (from ≤ to) × (to ≤ length (now source)) × (length (now source) < 2 ^ 32) × (w < 2 ^ 40) ⌝ }
+    requires { ⌜ (from ≤ to) × (to ≤ length (now source)) × Within (slice from to (now source)) w ⌝ }
     ensures { λ r. ⌜ Puts (slice from to (now (source .entry))) w (now (out .entry)) r (now (out .exit)) ⌝ }
-    ensures { λ r. ⌜ r ≤ w + length (now (source .entry)) ⌝ }
 {
     let size = to - from;
     let mut i = 0;
@@ -22,18 +21,16 @@ pub(crate) fn copy(source: &[u8], from: usize, to: usize, out: &mut [u8], w: usi
 
 // A number in shortest form.
 pub(crate) fn number(n: u64, out: &mut [u8], w: usize) -> usize
-    requires { ⌜ w < 2 ^ 40 ⌝ }
+    requires { ⌜ Within (decimal n) w ⌝ }
     ensures { λ r. ⌜ Puts (decimal n) w (now (out .entry)) r (now (out .exit)) ⌝ }
-    ensures { λ r. ⌜ r ≤ w + 20 ⌝ }
 {
     w + decimal::write_decimal(out, w, n)
 }
 
 // An integer in shortest form, by its two's complement pattern.
 pub(crate) fn integer(word: u64, out: &mut [u8], w: usize) -> usize
-    requires { ⌜ w < 2 ^ 39 ⌝ }
+    requires { ⌜ Within (signedDigits word) w ⌝ }
     ensures { λ r. ⌜ Puts (signedDigits word) w (now (out .entry)) r (now (out .exit)) ⌝ }
-    ensures { λ r. ⌜ r ≤ w + 21 ⌝ }
 {
     let signed = decimal::signed_of(word);
     let magnitude = signed.magnitude;

@@ -4,9 +4,9 @@ use crate::output::integer;
 use crate::output::number;
 use format::kind::Kind;
 use scanner::Text;
-ghost use Prim.Native.Nat.{_+_, _≤_, _<_, _^_};
+ghost use Prim.Native.Nat.{_+_, _≤_};
 ghost use lib.ListN.{length};
-ghost use Rattle.editor.specs.Output.{Puts};
+ghost use Rattle.editor.specs.Output.{Within, Puts};
 ghost use Rattle.editor.specs.Shortest.{numberedText, signedText, objectHeadText, shortestText, QuotedBounds, Bounds};
 
 // A tag and its colon, a number in shortest form, and the bytes from one index up to another.
@@ -19,9 +19,8 @@ fn numbered(
     out: &mut [u8],
     w: usize,
 ) -> usize
-    requires { ⌜ (at + 2 ≤ length (now source)) × (from ≤ to) × (to ≤ length (now source)) × (length (now source) < 2 ^ 32) × (w < 2 ^ 38) ⌝ }
+    requires { ⌜ (at + 2 ≤ length (now source)) × (from ≤ to) × (to ≤ length (now source)) × Within (numberedText (now source) at n from to) w ⌝ }
     ensures { λ r. ⌜ Puts (numberedText (now (source .entry)) at n from to) w (now (out .entry)) r (now (out .exit)) ⌝ }
-    ensures { λ r. ⌜ r ≤ w + 2 ^ 34 ⌝ }
 {
     let tagged = copy(source, at, at + 2, out, w);
     let spelled = number(n, out, tagged);
@@ -30,7 +29,7 @@ fn numbered(
 
 // An integer: its tag and its colon, the shortest text of a word, and the semicolon.
 fn signed(source: &[u8], at: usize, word: u64, next: usize, out: &mut [u8], w: usize) -> usize
-    requires { ⌜ (at + 4 ≤ next) × (next ≤ length (now source)) × (length (now source) < 2 ^ 32) × (w < 2 ^ 37) ⌝ }
+    requires { ⌜ (at + 4 ≤ next) × (next ≤ length (now source)) × Within (signedText (now source) at word next) w ⌝ }
     ensures { λ r. ⌜ Puts (signedText (now (source .entry)) at word next) w (now (out .entry)) r (now (out .exit)) ⌝ }
 {
     let start = copy(source, at, at + 2, out, w);
@@ -40,7 +39,7 @@ fn signed(source: &[u8], at: usize, word: u64, next: usize, out: &mut [u8], w: u
 
 // An object's head: its class name's length and its count in shortest form.
 fn object_head(source: &[u8], at: usize, text: Text, out: &mut [u8], w: usize) -> usize
-    requires { ⌜ Bounds (now source) at text × QuotedBounds at text × (w < 2 ^ 36) ⌝ }
+    requires { ⌜ Bounds (now source) at text × QuotedBounds at text × Within (objectHeadText (now source) at text) w ⌝ }
     ensures { λ r. ⌜ Puts (objectHeadText (now (source .entry)) at text) w (now (out .entry)) r (now (out .exit)) ⌝ }
 {
     let name = text.content as usize;
@@ -52,7 +51,7 @@ fn object_head(source: &[u8], at: usize, text: Text, out: &mut [u8], w: usize) -
 
 // The token at an index, whose text is known.
 pub(crate) fn shortest(source: &[u8], at: usize, text: Text, out: &mut [u8], w: usize) -> usize
-    requires { ⌜ Bounds (now source) at text × (w < 2 ^ 36) ⌝ }
+    requires { ⌜ Bounds (now source) at text × Within (shortestText (now source) at text) w ⌝ }
     ensures { λ r. ⌜ Puts (shortestText (now (source .entry)) at text) w (now (out .entry)) r (now (out .exit)) ⌝ }
 {
     let tag = source[at];

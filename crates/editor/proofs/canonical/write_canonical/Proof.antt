@@ -33,7 +33,7 @@ returns : tie.Need-returns Inv-loop μ-loop
 returns c = absurd (rewritten.fit-token (c .before .before .before .before .loop .inv) (c .before .before .before .loop-test .taken) _ _ (c .before .before .token .ensures) (c .enum-told .given .1))
 
 shortest-requires : tie.Need-shortest-requires Inv-loop μ-loop
-shortest-requires c κs = (rewritten.bounds-next (c .before .before .before .before .before .before .loop .inv) (c .before .before .before .before .before .loop-test .taken) _ (found-of (c .before .before .before .before .token .ensures) (c .before .before .scan .given .1)), omega (arith, rewritten.low (c .before .before .before .before .before .before .loop .inv)))
+shortest-requires c κs = (rewritten.bounds-next (c .before .before .before .before .before .before .loop .inv) (c .before .before .before .before .before .loop-test .taken) _ (found-of (c .before .before .before .before .token .ensures) (c .before .before .scan .given .1)), rewritten.within-next (c .before .before .before .before .before .before .loop .inv) (c .before .before .before .before .before .loop-test .taken) _ (found-of (c .before .before .before .before .token .ensures) (c .before .before .scan .given .1)))
 
 loop-less : tie.Need-loop-less Inv-loop μ-loop
 loop-less c = omega (arith, (found-of (c .before .before .before .before .before .before .before .token .ensures) (c .before .before .before .before .before .scan .given .1)) .on, c .before .before .before .before .before .before .before .before .loop-test .taken)

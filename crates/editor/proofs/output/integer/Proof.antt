@@ -12,25 +12,25 @@ put-requires : tie.Need-put-requires
 put-requires c κs = search needs
 
 add-number : tie.Need-add-number
-add-number c = search needs
+add-number c = omega (arith, c .before .before .before .before .before .before .before .before .pre .low)
 
 number-requires : tie.Need-number-requires
-number-requires c κs = search needs
+number-requires c κs = outputs.within-negative _ _ (c .before .before .before .before .before .before .signed-of .ensures) _ (c .before .before .before .before .before .before .before .before .args .out .now) (c .before .before .before .before .before .if1 .taken) (c .before .before .before .before .before .before .before .before .pre)
 
 same-length : tie.Need-same-length
 same-length c = search needs
 
 returns : tie.Need-returns
-returns c = (outputs.puts-negative _ _ (c .before .before .before .before .before .before .before .before .before .signed-of .ensures) _ _ (c .before .before .before .before .before .before .before .before .if1 .taken) (c .before .before .before .before .before .before .put .ensures) (c .before .before .number .ensures .0), omega (arith, c .before .before .number .ensures .1))
+returns c = outputs.puts-negative _ _ (c .before .before .before .before .before .before .before .before .before .signed-of .ensures) _ _ (c .before .before .before .before .before .before .before .before .if1 .taken) (c .before .before .before .before .before .before .put .ensures) (c .before .before .number .ensures)
 
 number-requires-2 : tie.Need-number-requires-2
-number-requires-2 c κs = search needs
+number-requires-2 c κs = outputs.within-positive _ _ (c .before .before .signed-of .ensures) _ (c .before .before .before .before .args .out .now) (c .before .if1 .left) (c .before .before .before .before .pre)
 
 same-length-2 : tie.Need-same-length-2
 same-length-2 c = search needs
 
 returns-2 : tie.Need-returns-2
-returns-2 c = (outputs.puts-positive _ _ (c .before .before .before .before .before .signed-of .ensures) _ _ (c .before .before .before .before .if1 .left) (c .before .before .number2 .ensures .0), omega (arith, c .before .before .number2 .ensures .1))
+returns-2 c = outputs.puts-positive _ _ (c .before .before .before .before .before .signed-of .ensures) _ _ (c .before .before .before .before .if1 .left) (c .before .before .number2 .ensures)
 
 pub integer-spec : {M : Type 1} → statement M
 integer-spec =

@@ -1,30 +1,31 @@
 -- `editor::shortest::signed` meets its contract. Assumes nothing.
+use Rattle.editor.proofs.Outputs.{puts-then, within-first, within-then}
 use native.Mathlib.Omega.{arith}
-use Rattle.editor.proofs.Outputs.{puts-then}
+use Rattle.editor.proofs.Outputs.{puts-then, within-first, within-then}
 use borrow.Author.Needs.{needs}
 use Rattle.editor.proofs.shortest.signed.Statement.{statement}
 use Rattle.editor.proofs.shortest.signed.Tie as tie
 
 add-copy : tie.Need-add-copy
-add-copy c = omega (arith, c .before .before .pre .0, c .before .before .pre .1, c .before .before .pre .2)
+add-copy c = omega (arith, c .before .before .pre .0, c .before .before .pre .1)
 
 copy-requires : tie.Need-copy-requires
-copy-requires c κs = omega (arith, c .before .before .before .pre .0, c .before .before .before .pre .1, c .before .before .before .pre .2, c .before .before .before .pre .3)
+copy-requires c κs = (omega arith, omega (arith, c .before .before .before .pre .0, c .before .before .before .pre .1), within-first _ _ _ (c .before .before .before .pre .2))
 
 integer-requires : tie.Need-integer-requires
-integer-requires c κs = omega (arith, c .before .before .before .copy .ensures .1, c .before .before .before .before .before .before .before .pre .2, c .before .before .before .before .before .before .before .pre .3)
+integer-requires c κs = within-first _ _ _ (within-then (c .before .before .before .before .before .before .before .pre .2) (c .before .before .before .copy .ensures))
 
 sub-copy : tie.Need-sub-copy
 sub-copy c = omega (arith, c .before .before .before .before .before .before .before .before .before .before .pre .0)
 
 copy-requires-2 : tie.Need-copy-requires-2
-copy-requires-2 c κs = omega (arith, c .before .before .before .before .before .before .before .copy .ensures .1, c .before .before .before .integer .ensures .1, c .before .before .before .before .before .before .before .before .before .before .before .pre .0, c .before .before .before .before .before .before .before .before .before .before .before .pre .1, c .before .before .before .before .before .before .before .before .before .before .before .pre .2, c .before .before .before .before .before .before .before .before .before .before .before .pre .3)
+copy-requires-2 c κs = (omega arith, c .before .before .before .before .before .before .before .before .before .before .before .pre .1, within-then (within-then (c .before .before .before .before .before .before .before .before .before .before .before .pre .2) (c .before .before .before .before .before .before .before .copy .ensures)) (c .before .before .before .integer .ensures))
 
 same-length : tie.Need-same-length
 same-length c = search needs
 
 returns : tie.Need-returns
-returns c = puts-then (c .before .before .before .before .before .before .before .before .before .before .copy .ensures .0) (puts-then (c .before .before .before .before .before .before .integer .ensures .0) (c .before .before .copy2 .ensures .0))
+returns c = puts-then (c .before .before .before .before .before .before .before .before .before .before .copy .ensures) (puts-then (c .before .before .before .before .before .before .integer .ensures) (c .before .before .copy2 .ensures))
 
 pub signed-spec : {M : Type 1} → statement M
 signed-spec =
