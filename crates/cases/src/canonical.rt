@@ -8,9 +8,12 @@ use crate::report::Tally;
 
 pub(crate) fn run(tally: Tally) -> Tally {
     let t = paper(tally);
-    let t = integers(t);
+    let t = signs(t);
+    let t = zeros(t);
+    let t = greatest(t);
     let t = floats(t);
     let t = strings(t);
+    let t = ends_in_strings(t);
     let t = arrays(t);
     let t = keys(t);
     let t = class_names(t);
@@ -18,7 +21,9 @@ pub(crate) fn run(tally: Tally) -> Tally {
     let t = nested(t);
     let t = object(t);
     let t = canonical_already(t);
-    refused_by_reading(t)
+    let t = refused_at_the_end(t);
+    let t = refused_by_form(t);
+    refused_inside(t)
 }
 
 // "`i:-0;` is accepted, canonical `i:0;`", and "retyping that only copies, at `i:05;`".
@@ -29,20 +34,27 @@ fn paper(tally: Tally) -> Tally {
 }
 
 // "no `+`, no leading zero, `0` for zero and never `-0`".
-fn integers(tally: Tally) -> Tally {
+fn signs(tally: Tally) -> Tally {
     let t = written(tally, b"i:+7;", BYTES, b"i:7;", &[[105, 1, 7, 0, 0, 1]]);
     let t = written(t, b"i:+0;", BYTES, b"i:0;", &[[105, 1, 0, 0, 0, 1]]);
-    let t = written(t, b"i:-000;", BYTES, b"i:0;", &[[105, 1, 0, 0, 0, 1]]);
+    written(t, b"i:-000;", BYTES, b"i:0;", &[[105, 1, 0, 0, 0, 1]])
+}
+
+fn zeros(tally: Tally) -> Tally {
     let t = written(
-        t,
+        tally,
         b"i:-007;",
         BYTES,
         b"i:-7;",
         &[[105, 1, 18446744073709551609, 0, 0, 1]],
     );
-    let t = written(t, b"i:0100;", BYTES, b"i:100;", &[[105, 1, 100, 0, 0, 1]]);
+    written(t, b"i:0100;", BYTES, b"i:100;", &[[105, 1, 100, 0, 0, 1]])
+}
+
+// The lowest integer, and the highest.
+fn greatest(tally: Tally) -> Tally {
     let t = written(
-        t,
+        tally,
         b"i:-0009223372036854775808;",
         BYTES,
         b"i:-9223372036854775808;",
@@ -80,7 +92,7 @@ fn floats(tally: Tally) -> Tally {
     )
 }
 
-// A string's bytes may look like a token, or like the string's own end.
+// A string's bytes may look like a token.
 fn strings(tally: Tally) -> Tally {
     let t = written(
         tally,
@@ -89,15 +101,19 @@ fn strings(tally: Tally) -> Tally {
         b"s:5:\"basin\";",
         &[[115, 1, 5, 5, 0, 1]],
     );
-    let t = written(
+    written(
         t,
         b"s:5:\"i:05;\";",
         BYTES,
         b"s:5:\"i:05;\";",
         &[[115, 1, 5, 5, 0, 1]],
-    );
+    )
+}
+
+// Or like the string's own end; and there may be none.
+fn ends_in_strings(tally: Tally) -> Tally {
     let t = written(
-        t,
+        tally,
         b"s:0004:\"\";\";\";",
         BYTES,
         b"s:4:\"\";\";\";",
@@ -265,14 +281,20 @@ fn canonical_already(tally: Tally) -> Tally {
 }
 
 // "Retyping: reading, then 14": what reading refuses is refused so with any output.
-fn refused_by_reading(tally: Tally) -> Tally {
+fn refused_at_the_end(tally: Tally) -> Tally {
     let t = not_written(tally, b"N;;", BYTES, 10, 2);
     let t = not_written(t, b"N;;", 2, 10, 2);
-    let t = not_written(t, b"N;;", 0, 10, 2);
-    let t = not_written(t, b"b:2;", BYTES, 2, 0);
+    not_written(t, b"N;;", 0, 10, 2)
+}
+
+fn refused_by_form(tally: Tally) -> Tally {
+    let t = not_written(tally, b"b:2;", BYTES, 2, 0);
     let t = not_written(t, b"b:2;", 0, 2, 0);
-    let t = not_written(t, b"i:-0009223372036854775809;", BYTES, 5, 0);
-    let t = not_written(t, b"a:1:{i:0;R:02;}", 0, 6, 9);
-    // Nodes stand in the table when the equal key is met.
+    not_written(t, b"i:-0009223372036854775809;", BYTES, 5, 0)
+}
+
+// Nodes stand in the table when the reference, or the equal key, is met.
+fn refused_inside(tally: Tally) -> Tally {
+    let t = not_written(tally, b"a:1:{i:0;R:02;}", 0, 6, 9);
     not_written(t, b"a:2:{i:5;N;i:05;N;}", BYTES, 9, 11)
 }
