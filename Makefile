@@ -5,6 +5,8 @@
 
 BUILD := $(CURDIR)/build
 CARGO := CARGO_TARGET_DIR=$(BUILD)/cargo TONSCHNECKE_LIB_DIR=$(BUILD) cargo
+# one more than the cores: a prover waits now and then, and the gate takes an eighth less
+JOBS := $(shell echo $$(($$(nproc) + 1)))
 SECONDS ?= 60
 SEED ?= 1
 
@@ -43,7 +45,7 @@ bench: archive
 # rt ci comes last: it starts from nothing, and its last line is the verdict
 test: compare
 	rt fmt --check
-	rt ci
+	RT_JOBS=$(JOBS) rt ci
 
 clean:
 	rm -rf target $(BUILD)
