@@ -1,7 +1,6 @@
 -- `editor::has_room` meets its contract. Assumes nothing.
 use mathlib.Core.Path.{sym}
 use native.Mathlib.Omega.{arith}
-use mathlib.Core.Path.{sym}
 use Rattle.editor.proofs.Ended as ended
 use Rattle.editor.proofs.has_room.Statement.{statement}
 use Rattle.editor.proofs.has_room.Tie as tie

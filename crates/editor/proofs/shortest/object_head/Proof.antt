@@ -1,7 +1,6 @@
 -- `editor::shortest::object_head` meets its contract. Assumes nothing.
 use Rattle.editor.proofs.Outputs.{puts-then, within-first, within-then}
 use native.Mathlib.Omega.{arith}
-use Rattle.editor.proofs.Outputs.{puts-then, within-first, within-then}
 use borrow.Author.Needs.{needs}
 use Rattle.editor.proofs.shortest.object_head.Statement.{statement}
 use Rattle.editor.proofs.shortest.object_head.Tie as tie

@@ -1,7 +1,6 @@
 -- `editor::shortest::shortest` meets its contract. Assumes nothing.
 use Rattle.editor.proofs.Outputs.{puts-as, within-as}
 use native.Mathlib.Omega.{arith}
-use Rattle.editor.proofs.Outputs.{puts-as, within-as}
 use Rattle.editor.proofs.Spelled as spelled
 use Rattle.editor.proofs.Spelled.{more-of}
 use borrow.Author.Needs.{needs}

@@ -1,10 +1,13 @@
 -- `editor::shortest::signed` meets its contract. Assumes nothing.
 use Rattle.editor.proofs.Outputs.{puts-then, within-first, within-then}
 use native.Mathlib.Omega.{arith}
-use Rattle.editor.proofs.Outputs.{puts-then, within-first, within-then}
 use borrow.Author.Needs.{needs}
 use Rattle.editor.proofs.shortest.signed.Statement.{statement}
 use Rattle.editor.proofs.shortest.signed.Tie as tie
+
+-- the text first: what an edit of a part breaks is seen there
+returns : tie.Need-returns
+returns c = puts-then (c .before .before .before .before .before .before .before .before .before .before .copy .ensures) (puts-then (c .before .before .before .before .before .before .integer .ensures) (c .before .before .copy2 .ensures))
 
 add-copy : tie.Need-add-copy
 add-copy c = omega (arith, c .before .before .pre .0, c .before .before .pre .1)
@@ -23,9 +26,6 @@ copy-requires-2 c κs = (omega arith, c .before .before .before .before .before 
 
 same-length : tie.Need-same-length
 same-length c = search needs
-
-returns : tie.Need-returns
-returns c = puts-then (c .before .before .before .before .before .before .before .before .before .before .copy .ensures) (puts-then (c .before .before .before .before .before .before .integer .ensures) (c .before .before .copy2 .ensures))
 
 pub signed-spec : {M : Type 1} → statement M
 signed-spec =
