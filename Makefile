@@ -5,7 +5,7 @@
 
 BUILD := $(CURDIR)/build
 CARGO := CARGO_TARGET_DIR=$(BUILD)/cargo TONSCHNECKE_LIB_DIR=$(BUILD) cargo
-# one more than the cores: a prover waits now and then, and the gate takes an eighth less
+# one more than the cores: a prover waits now and then; a small crate's edits take an eighth less time so
 JOBS := $(shell echo $$(($$(nproc) + 1)))
 SECONDS ?= 60
 SEED ?= 1
