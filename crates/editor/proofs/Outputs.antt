@@ -9,7 +9,7 @@ use mathlib.Core.Bool.{Bool, true, false}
 use lib.ListN.{length, getD, take, drop, set, length-append, drop-of-length-le}
 use lib.Seq.{sets, slice, length-slice, drop-cons, drop-drop, take-nil, getD-take, getD-drop, take-append-seam, drop-append-seam}
 use Rattle.decimal.specs.Digits.{decimal}
-use Rattle.decimal.specs.Promise.{Stored, SignedOf}
+use Rattle.decimal.specs.Promise.{SignedOf}
 use Rattle.decimal.specs.declared.Signed.{Signed}
 use Rattle.decimal.proofs.Stores.{sets-append}
 use Rattle.editor.specs.Output.{withSign, signedDigits, Within, Puts}
@@ -36,9 +36,6 @@ within-first t u w h = record { low = omega (arith, h .low, length-append t u) }
 
 pub within-then : {t u : List ℕ} {w : ℕ} {out : List ℕ} {e : ℕ} {out₁ : List ℕ} → Within (t ++ u) w → Puts t w out e out₁ → Within u e
 within-then {t} {u} h p = record { low = omega (arith, h .low, p .end, length-append t u) }
-
-pub puts-stored : {w n : ℕ} {out : List ℕ} {k : ℕ} {out′ : List ℕ} → Stored out w n k out′ → Puts (decimal n) w out (w + k) out′
-puts-stored s = record { end = rw (s .length); text = s .output }
 
 -- ---- parts of the source
 
