@@ -26,7 +26,8 @@ use Rattle.format.proofs.NormalTable.{canonical-table}
 use Rattle.format.proofs.OneText.{one-canonical-text, canonical-twice}
 use Rattle.format.proofs.Results.{tableOf-length, flat-length, after-accepted, after-length}
 use Rattle.format.proofs.Unique.{one-meaning, accepted-means}
-use Rattle.editor.specs.Promise.{fitsIn, withRoom, canonicalBytes, tableWritten}
+use Rattle.format.specs.Writing.{fitsIn, withRoom, canonicalBytes}
+use Rattle.editor.specs.Promise.{tableWritten}
 
 -- ---- what is written, and of what
 

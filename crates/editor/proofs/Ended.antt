@@ -19,7 +19,8 @@ use Rattle.format.specs.Reading.{capacityOf, cleared, over, tableAfter}
 use Rattle.format.proofs.Inversion.{read-ok}
 use Rattle.format.proofs.Results.{after-length, after-refused}
 use Rattle.editor.specs.Output.{Puts}
-use Rattle.editor.specs.Promise.{fitsIn, withRoom, canonicalBytes, answerOf, Writes}
+use Rattle.format.specs.Writing.{fitsIn, withRoom, canonicalBytes}
+use Rattle.editor.specs.Promise.{answerOf, Writes}
 use Rattle.editor.specs.Rewriting.{IsPrint}
 use Rattle.editor.specs.declared.Writing.{Writing}
 

@@ -1,36 +1,11 @@
 -- WHAT THE SERVICES THAT WRITE A PLAN PROMISE. The other files here say what their private functions promise each other; nothing public rests on them.
 use mathlib.Core.Path.{_≡_}
 use mathlib.Core.List.{List}
-use mathlib.Core.Bool.{Bool, _&&_}
 use Prim.Native.Nat.{ℕ}
-use lib.Dec.{leb}
 use lib.ListN.{length}
-use Rattle.format.specs.Syntax.{print}
-use Rattle.format.specs.Limits.{sourceLimit}
-use Rattle.format.specs.Answer.{Answer, ok, refused, _>>=_, require}
-use Rattle.format.specs.Read.{read}
-use Rattle.format.specs.Canonical.{canonical}
+use Rattle.format.specs.Answer.{Answer, ok, refused, _>>=_}
 use Rattle.format.specs.Reading.{cleared, over, tableAfter}
 use Rattle.editor.specs.declared.Writing.{Writing}
-
--- ---- the bytes to write, or the first refusal
-
--- 14: "bytes to write exceed the output's length or 65,536"
-abbrev pub fitsIn : (room length : ℕ) → Bool
-fitsIn room length = leb length room && leb length sourceLimit
-
-abbrev pub withRoom : (room : ℕ) → (bytes : List ℕ) → Answer (List ℕ)
-withRoom room bytes = do
-  _ ← require (fitsIn room (length bytes)) 14 0
-  ok bytes
-
--- "Retyping: reading, then 14."
-unfoldable pub canonicalBytes : (capacity room : ℕ) → (source : List ℕ) → Answer (List ℕ)
-canonicalBytes capacity room source = do
-  v ← read capacity source
-  withRoom room (print (canonical v))
-
--- ---- what is answered and left
 
 -- "their length as result"
 abbrev pub lengthOf : (bytes : Answer (List ℕ)) → Answer ℕ

@@ -4,7 +4,8 @@ use reader::Reading;
 ghost use mathlib.Core.Path.{_≡_};
 ghost use lib.ListN.{length};
 ghost use Rattle.format.specs.Reading.{capacityOf};
-ghost use Rattle.editor.specs.Promise.{fitsIn, canonicalBytes, Writes};
+ghost use Rattle.format.specs.Writing.{fitsIn, canonicalBytes};
+ghost use Rattle.editor.specs.Promise.{Writes};
 
 mod canonical;
 mod output;

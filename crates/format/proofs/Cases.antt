@@ -1,6 +1,6 @@
 -- The worked cases of paper 01 hold of the definitions: computed by the checker. Assumes nothing.
 use lib.Dec.{T}
-use Rattle.format.specs.Cases.{hold, starred, unstarred, edges, large}
+use Rattle.format.specs.Cases.{hold, starred, unstarred, edges, insertions, large}
 
 -- THE STARRED CASES
 pub starred-hold : T (hold starred)
@@ -16,6 +16,10 @@ unstarred-hold = tt
 pub edges-hold : T (hold edges)
 unfolding hold
 edges-hold = tt
+
+pub insertions-hold : T (hold insertions)
+unfolding hold
+insertions-hold = tt
 
 pub large-hold : T (hold large)
 unfolding hold

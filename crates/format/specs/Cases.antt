@@ -8,12 +8,14 @@ use lib.ListN.{replicate}
 use Rattle.format.specs.Bytes.{byte, bytes, sameBytes}
 use Rattle.format.specs.Tree.{nodes, ordinals}
 use Rattle.format.specs.Syntax.{Value, own, write, print}
-use Rattle.format.specs.Limits.{isFloat}
+use Rattle.format.specs.Limits.{sourceLimit, isFloat}
 use Rattle.format.specs.Answer.{Answer, ok, refused}
 use Rattle.format.specs.Read.{digits, number, intText, quotedText, boolText, floatText, referenceText, keyText, readKey, readBranch, readBody, read}
 use Rattle.format.specs.Table.{flat, tableOf}
 use Rattle.format.specs.Shows.{nodeAt}
 use Rattle.format.specs.Canonical.{canonical}
+use Rattle.format.specs.Edit.{insert}
+use Rattle.format.specs.Writing.{keyOf, scalarOf, insertBytes}
 
 pub data Outcome : Type 0 where
   refusal : (code at : ℕ) → Outcome
@@ -21,8 +23,9 @@ pub data Outcome : Type 0 where
   table : List ℕ → Outcome
   resolves : (node target : ℕ) → Outcome
   canonicalText : List ℕ → Outcome
+  insertion : (node place : ℕ) → (key value : List ℕ) → Answer (List ℕ) → Outcome
 
--- a plan and a table's room, and what reading them shows
+-- a plan and a table's room, and what reading them shows; or inserting into the plan, with an output as long as a plan may be
 pub record Case : Type 0 where
   pub source : List ℕ
   pub capacity : ℕ
@@ -36,25 +39,33 @@ s ⇒ o = record { source = s; capacity = 1365; outcome = o }
 abbrev pub within : (capacity : ℕ) → Case → Case
 within n c = record { source = c .source; capacity = n; outcome = c .outcome }
 
-unfoldable pub shown : Outcome → Answer Value → Bool
-shown (refusal n p) (ok v) = false
-shown (refusal n p) (refused n′ p′) = eqb n n′ && eqb p p′
-shown (accepted n m) (ok v) = eqb n (nodes v) && eqb m (ordinals own v)
-shown (accepted n m) (refused n′ p) = false
-shown (table ws) (ok v) = sameBytes ws (flat (tableOf v))
-shown (table ws) (refused n p) = false
-shown (resolves i j) (ok v) = eqb j (nodeAt (tableOf v) i .link)
-shown (resolves i j) (refused n p) = false
-shown (canonicalText t) (ok v) = sameBytes t (print (canonical v))
-shown (canonicalText t) (refused n p) = false
+abbrev pub sameAnswer : Answer (List ℕ) → Answer (List ℕ) → Bool
+sameAnswer (ok s) (ok t) = sameBytes s t
+sameAnswer (ok s) (refused n p) = false
+sameAnswer (refused n p) (ok t) = false
+sameAnswer (refused n p) (refused n′ p′) = eqb n n′ && eqb p p′
+
+-- the answer of reading, and that of inserting
+unfoldable pub shown : Outcome → Answer Value → (insert : (node place : ℕ) → (key value : List ℕ) → Answer (List ℕ)) → Bool
+shown (refusal n p) (ok v) i = false
+shown (refusal n p) (refused n′ p′) i = eqb n n′ && eqb p p′
+shown (accepted n m) (ok v) i = eqb n (nodes v) && eqb m (ordinals own v)
+shown (accepted n m) (refused n′ p) i = false
+shown (table ws) (ok v) i = sameBytes ws (flat (tableOf v))
+shown (table ws) (refused n p) i = false
+shown (resolves i j) (ok v) f = eqb j (nodeAt (tableOf v) i .link)
+shown (resolves i j) (refused n p) f = false
+shown (canonicalText t) (ok v) i = sameBytes t (print (canonical v))
+shown (canonicalText t) (refused n p) i = false
+shown (insertion node place key value a) r i = sameAnswer a (i node place key value)
 
 -- every case of a table, with all that it takes to compute it open
 unfoldable pub hold : List Case → Bool
-unfolding shown tableOf canonical read readBody readBranch readKey keyText digits number intText quotedText boolText floatText referenceText isFloat decimal decimalIn write
+unfolding shown tableOf canonical insert keyOf scalarOf insertBytes read readBody readBranch readKey keyText digits number intText quotedText boolText floatText referenceText isFloat decimal decimalIn write
 hold [] = true
-hold (c ∷ cs) = shown (c .outcome) (read (c .capacity) (c .source)) && hold cs
+hold (c ∷ cs) = shown (c .outcome) (read (c .capacity) (c .source)) (insertBytes (c .capacity) sourceLimit (c .source)) && hold cs
 
--- "Those marked * form the small proved set": the ones on reading and canonical text
+-- "Those marked * form the small proved set"
 abbrev pub starred : List Case
 starred =
     (bytes "" ⇒ refusal 2 0)
@@ -72,6 +83,8 @@ starred =
     ∷ (bytes "a:1:{i:0;r:2;}" ⇒ refusal 6 9)
     ∷ (bytes "a:4:{i:0;i:7;i:1;R:2;i:2;i:9;i:3;R:3;}" ⇒ resolves 8 6)
     ∷ (bytes "a:4:{i:0;i:7;i:1;r:2;i:2;i:9;i:3;R:3;}" ⇒ resolves 8 4)
+    ∷ (bytes "a:3:{i:0;d:1.5;i:1;d:2.5;i:2;R:3;}" ⇒ insertion 0 1 (bytes "i:59;") (bytes "d:2;") (ok (bytes "a:4:{i:0;d:1.5;i:59;d:2;i:1;d:2.5;i:2;R:4;}")))
+    ∷ (bytes "a:3:{i:0;d:1.5;i:1;d:2.5;i:2;R:3;}" ⇒ insertion 0 3 (bytes "i:59;") (bytes "d:2;") (ok (bytes "a:4:{i:0;d:1.5;i:1;d:2.5;i:2;R:3;i:59;d:2;}")))
     ∷ []
 
 -- the rest of that section but for depth, and its worked tables
@@ -137,6 +150,28 @@ edges =
     ∷ within 5 (bytes "a:2:{i:0;N;i:1;R:2;}" ⇒ table (97 ∷ 1 ∷ 0 ∷ 0 ∷ 2 ∷ 5 ∷ 105 ∷ 0 ∷ 0 ∷ 0 ∷ 0 ∷ 2 ∷ 78 ∷ 2 ∷ 0 ∷ 0 ∷ 0 ∷ 3 ∷ 105 ∷ 0 ∷ 1 ∷ 0 ∷ 0 ∷ 4 ∷ 82 ∷ 0 ∷ 2 ∷ 0 ∷ 2 ∷ 5 ∷ []))
     ∷ []
 
+-- inserting: what is kept and what is rewritten, and the order of refusals
+abbrev pub insertions : List Case
+insertions =
+    (bytes "a:02:{i:0;a:01:{i:0;r:01;}i:1;R:002;}" ⇒ insertion 2 0 (bytes "s:1:\"x\";") (bytes "N;") (ok (bytes "a:02:{i:0;a:2:{s:1:\"x\";N;i:0;r:01;}i:1;R:002;}")))
+    ∷ (bytes "a:02:{i:0;a:01:{i:0;r:01;}i:1;R:03;}" ⇒ insertion 2 0 (bytes "i:+05;") (bytes "b:1;") (ok (bytes "a:02:{i:0;a:2:{i:+05;b:1;i:0;r:01;}i:1;R:4;}")))
+    ∷ (bytes "a:02:{i:0;a:01:{i:0;r:01;}i:1;R:03;}" ⇒ insertion 2 1 (bytes "i:5;") (bytes "b:1;") (ok (bytes "a:02:{i:0;a:2:{i:0;r:01;i:5;b:1;}i:1;R:03;}")))
+    ∷ (bytes "N;" ⇒ insertion 0 9 (bytes "") (bytes "") (refused 11 0))
+    ∷ (bytes "x" ⇒ insertion 0 9 (bytes "") (bytes "") (refused 3 0))
+    ∷ (bytes "a:1:{i:0;N;}" ⇒ insertion 1 0 (bytes "i:1;") (bytes "N;") (refused 11 0))
+    ∷ (bytes "a:1:{i:0;N;}" ⇒ insertion 3 0 (bytes "i:1;") (bytes "N;") (refused 11 0))
+    ∷ (bytes "O:1:\"A\":0:{}" ⇒ insertion 0 0 (bytes "i:1;") (bytes "N;") (refused 11 0))
+    ∷ (bytes "a:1:{i:0;N;}" ⇒ insertion 0 2 (bytes "d:1;") (bytes "N;") (refused 12 0))
+    ∷ (bytes "a:1:{i:0;N;}" ⇒ insertion 0 1 (bytes "d:1;") (bytes "N;") (refused 13 0))
+    ∷ (bytes "a:1:{i:0;N;}" ⇒ insertion 0 1 (bytes "i:0;") (bytes "N;N;") (refused 13 0))
+    ∷ (bytes "a:1:{i:0;N;}" ⇒ insertion 0 1 (bytes "i:1;") (bytes "a:0:{}") (refused 13 0))
+    ∷ (bytes "a:1:{i:0;N;}" ⇒ insertion 0 1 (bytes "i:1;") (bytes "R:1;") (refused 13 0))
+    ∷ (bytes "a:1:{i:0;N;}" ⇒ insertion 0 1 (bytes "i:1;x") (bytes "N;") (refused 13 0))
+    ∷ within 3 (bytes "a:1:{i:0;N;}" ⇒ insertion 0 1 (bytes "i:-00;") (bytes "N;") (refused 9 0))
+    ∷ within 4 (bytes "a:1:{i:0;N;}" ⇒ insertion 0 1 (bytes "s:1:\"0\";") (bytes "N;") (refused 7 0))
+    ∷ within 5 (bytes "a:1:{i:0;N;}" ⇒ insertion 0 1 (bytes "s:1:\"0\";") (bytes "N;") (ok (bytes "a:2:{i:0;N;s:1:\"0\";N;}")))
+    ∷ []
+
 -- arrays, so many deep, around a text
 abbrev pub deep : ℕ → (inside : List ℕ) → List ℕ
 deep zero s = s
@@ -153,6 +188,8 @@ large =
     ∷ (deep 64 (bytes "x") ⇒ refusal 3 576)
     ∷ within 128 (nested 65 ⇒ refusal 8 576)
     ∷ within 127 (nested 65 ⇒ refusal 7 572)
+    ∷ within 127 (nested 64 ⇒ insertion 126 0 (bytes "i:0;") (bytes "N;") (refused 8 0))
+    ∷ within 127 (nested 64 ⇒ insertion 124 0 (bytes "i:1;") (bytes "N;") (refused 7 0))
     ∷ (replicate 65537 (byte "N") ⇒ refusal 1 0)
     ∷ (bytes "i:" ++ (replicate 65533 (byte "0") ++ bytes ";") ⇒ accepted 1 1)
     ∷ []

@@ -12,4 +12,6 @@ pub mod Meaning
 pub mod Canonical
 pub mod Shows
 pub mod Reading
+pub mod Edit
+pub mod Writing
 pub mod Cases

@@ -1,7 +1,7 @@
 // The services that write a plan, for C.
 use editor::Writing;
 ghost use lib.ListN.{length};
-ghost use Rattle.editor.specs.Promise.{canonicalBytes};
+ghost use Rattle.format.specs.Writing.{canonicalBytes};
 ghost use Rattle.format.specs.Reading.{capacityOf};
 ghost use Rattle.tonschnecke.specs.Promise.{Writes};
 

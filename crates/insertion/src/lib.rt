@@ -1,0 +1,1 @@
+// What inserting does to a plan's meaning: definitions (specs/) and theorems (proofs/), and no code.
