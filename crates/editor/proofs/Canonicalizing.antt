@@ -44,6 +44,11 @@ room-of room text bytes e =
     let same : text ≡ bytes = ok-same (a .2) in
     (sym same, omega (arith, ap length same, leb→le (length text) room (and-left (leb (length text) room) (leb (length text) sourceLimit) (require-ok (fitsIn room (length text)) 14 0 (a .0) (a .1)))))
 
+-- a refusal of reading is its own
+pub read-refused : (capacity room : ℕ) (source : List ℕ) (code at : ℕ) → read capacity source ≡ refused code at → canonicalBytes capacity room source ≡ refused code at
+unfolding canonicalBytes
+read-refused capacity room source code at e = rw e
+
 pub canonicalized : (capacity room : ℕ) (source bytes : List ℕ) → canonicalBytes capacity room source ≡ ok bytes → Canonicalized capacity room source bytes
 unfolding canonicalBytes
 canonicalized capacity room source bytes e =
@@ -52,7 +57,7 @@ canonicalized capacity room source bytes e =
     record { value = a .0; read = a .1; text = r .0; fits = r .1 }
 
 -- of a plan that is read, 14 is the only refusal, and only where its canonical text is too long for the output
-by-value : (capacity room : ℕ) (source : List ℕ) (v : Value) → read capacity source ≡ ok v → canonicalBytes capacity room source ≡ withRoom room (print (canonical v))
+pub by-value : (capacity room : ℕ) (source : List ℕ) (v : Value) → read capacity source ≡ ok v → canonicalBytes capacity room source ≡ withRoom room (print (canonical v))
 unfolding canonicalBytes
 by-value capacity room source v e = rw e
 

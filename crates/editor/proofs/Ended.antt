@@ -6,7 +6,7 @@ use mathlib.Core.Path.{_≡_, refl, sym, ap, ap₂, _∙_, subst}
 use mathlib.Core.List.{List, [], _∷_, _++_}
 use mathlib.Core.Bool.{Bool, true, false}
 use lib.Dec.{leb, leb→le}
-use lib.ListN.{length, take, drop, replicate}
+use lib.ListN.{length, take, drop, replicate, drop-of-length-le}
 use lib.Seq.{sets, sets-eq, length-sets, take-append-seam}
 use borrow.Author.Tests.{le-leb, lt-leb}
 use Rattle.decimal.proofs.Decide.{T-of, and-left}
@@ -15,13 +15,19 @@ use Rattle.format.specs.Limits.{sourceLimit}
 use Rattle.format.specs.Answer.{Answer, ok, refused, _>>=_, require}
 use Rattle.format.specs.Read.{read}
 use Rattle.format.specs.Canonical.{canonical}
-use Rattle.format.specs.Reading.{capacityOf, cleared, over, tableAfter}
+use Rattle.format.specs.Reading.{cleared, over, tableAfter}
+use Rattle.format.specs.Fits.{IsPlan}
 use Rattle.format.proofs.Inversion.{read-ok}
-use Rattle.format.proofs.Results.{after-length, after-refused}
-use Rattle.editor.specs.Output.{Puts}
-use Rattle.format.specs.Writing.{fitsIn, withRoom, canonicalBytes}
+use Rattle.format.proofs.NormalForm.{canonical-shorter}
+use Rattle.format.proofs.Results.{after-length}
+use Rattle.editor.specs.Output.{Within, Puts}
+use Rattle.format.specs.Writing.{fitsIn, withRoom}
 use Rattle.editor.specs.Promise.{answerOf, Writes}
-use Rattle.editor.specs.Rewriting.{IsPrint}
+use Rattle.editor.specs.Ends.{Refuses, Settles}
+use Rattle.editor.specs.Tokens.{Token, tokens, writeTokens}
+use Rattle.editor.specs.Rewriting.{changedText, Stretch, Rewrites}
+use Rattle.editor.specs.declared.rewrite.Change.{Change}
+use Rattle.editor.proofs.TokenLaws.{tokens-write, tokens-canonical, tokens-fit}
 use Rattle.editor.specs.declared.Writing.{Writing}
 
 -- ---- 14
@@ -60,43 +66,60 @@ module _ {bytes : List ℕ} {n : ℕ} {part : List ℕ} (measured : Puts bytes 0
       prefix : take n out′ ≡ bytes
       prefix = ap (λ (k : ℕ). take k out′) size ∙ ap (take (length bytes)) written ∙ take-append-seam bytes (drop (length bytes) out)
 
--- ---- retyping
+-- ---- what is answered and left, the bytes to write being known
 
-pub accepted-is : (capacity : ℕ) (source : List ℕ) (v : Value) → read capacity source ≡ ok v → IsPrint source v
-accepted-is capacity source v e =
-    let p = read-ok capacity source v e in
-    record { printed = p .printed; valid = p .fits .valid }
-
-module _ (source before out : List ℕ) where
-  abbrev text : Answer (List ℕ)
-  text = canonicalBytes (capacityOf before) (length out) source
-
-  -- what the definition says, by what is read
-  as-read : (after out′ : List ℕ) (r : Writing) (a : Answer Value) (b : Answer (List ℕ)) → read (capacityOf before) source ≡ a → (a >>= λ v. withRoom (length out) (print (canonical v))) ≡ b
-      → Writes b source before after out out′ r → Writes text source before after out out′ r
-  unfolding canonicalBytes
-  as-read after out′ r a b e f w =
-      subst (λ (c : Answer (List ℕ)). Writes c source before after out out′ r) (sym (ap (λ (a : Answer Value). a >>= λ v. withRoom (length out) (print (canonical v))) e ∙ f)) w
-
-  pub writes-refused : (after : List ℕ) (code at : ℕ) → read (capacityOf before) source ≡ refused code at → after ≡ tableAfter source before → Writes text source before after out out (Writing.Refused code at)
+module _ {text : Answer (List ℕ)} (source before out : List ℕ) where
+  -- the definition's own refusal, with nothing written
+  pub writes-refused : {after : List ℕ} {code at : ℕ} → text ≡ refused code at → after ≡ cleared before → Writes text source before after out out (Writing.Refused code at)
   unfolding answerOf
-  writes-refused after code at e t =
-      as-read after out (Writing.Refused code at) (refused code at) (refused code at) e refl (record { answer = refl; leaves = record { table = t ∙ after-refused source before code at e; output = refl } })
+  writes-refused {after} {code} {at} e t =
+      subst (λ (c : Answer (List ℕ)). Writes c source before after out out (Writing.Refused code at)) (sym e) (record { answer = refl; leaves = record { table = t; output = refl } })
 
-  module _ (v : Value) (e : read (capacityOf before) source ≡ ok v) (between : List ℕ) (t : between ≡ tableAfter source before) (n : ℕ) (part : List ℕ) (measured : Puts (print (canonical v)) 0 [] n part) where
-    roomed : (b : Bool) → fitsIn (length out) n ≡ b → withRoom (length out) (print (canonical v)) ≡ (require b 14 0 >>= λ u. ok (print (canonical v)))
-    roomed b f = ap (λ (b : Bool). require b 14 0 >>= λ u. ok (print (canonical v))) (ap (fitsIn (length out)) (sym (size measured out)) ∙ f)
+  -- a refusal at 0, the plan having been read
+  pub writes-refusal : {between after : List ℕ} {code : ℕ} {r : Writing} → between ≡ tableAfter source before → text ≡ refused code 0 → Refuses code between after r → Writes text source before after out out r
+  writes-refusal {between} {after} {code} {r} t e f =
+      subst (Writes text source before after out out) (sym (f .answer))
+      (writes-refused e (f .table ∙ ap (λ (k : ℕ). replicate k 0) (ap length t ∙ after-length source before)))
+
+  module _ {bytes : List ℕ} (e : text ≡ withRoom (length out) bytes) {between : List ℕ} (t : between ≡ tableAfter source before) {n : ℕ} {part : List ℕ} (measured : Puts bytes 0 [] n part) where
+    roomed : (b : Bool) → fitsIn (length out) n ≡ b → text ≡ (require b 14 0 >>= λ u. ok bytes)
+    roomed b f = e ∙ ap (λ (b : Bool). require b 14 0 >>= λ u. ok bytes) (ap (fitsIn (length out)) (sym (size measured out)) ∙ f)
 
     -- no room: every word is zero, and nothing is written
-    pub writes-14 : (after : List ℕ) → fitsIn (length out) n ≡ false → after ≡ cleared between → Writes text source before after out (part ++ out) (Writing.Refused 14 0)
-    unfolding answerOf
-    writes-14 after f c =
-        as-read after (part ++ out) (Writing.Refused 14 0) (ok v) (refused 14 0) e (roomed false f)
-        (record { answer = refl; leaves = record { table = c ∙ ap (λ (k : ℕ). replicate k 0) (ap length t ∙ after-length source before); output = untouched measured out } })
+    pub writes-14 : {after : List ℕ} {r : Writing} → fitsIn (length out) n ≡ false → Refuses 14 between after r → Writes text source before after out (part ++ out) r
+    writes-14 {after} {r} f c = subst (λ (o : List ℕ). Writes text source before after out o r) (sym (untouched measured out)) (writes-refusal t (roomed false f) c)
 
-    pub writes-text : (f : fitsIn (length out) n ≡ true) (m : ℕ) (out′ : List ℕ) → Puts (print (canonical v)) 0 (part ++ out) m out′ → (after : List ℕ) → after ≡ tableAfter (take n out′) between
-        → Writes text source before after out out′ (Writing.Written n)
+    pub writes-text : (f : fitsIn (length out) n ≡ true) {m : ℕ} {out′ : List ℕ} → Puts bytes 0 (part ++ out) m out′ → {after : List ℕ} {r : Writing} → Settles (take n out′) between after r → Writes text source before after out out′ r
     unfolding answerOf
-    writes-text f m out′ put after c =
-        as-read after out′ (Writing.Written n) (ok v) (ok (print (canonical v))) e (roomed true f)
-        (record { answer = ap ok (size measured out); leaves = record { table = c ∙ ap₂ tableAfter (prefix measured out f put) t; output = written measured out f put } })
+    writes-text f {m} {out′} put {after} {r} c =
+        let same : take n out′ ≡ bytes = prefix measured out f put in
+        subst (λ (a : Answer (List ℕ)). Writes a source before after out out′ r) (sym (roomed true f))
+        (subst (Writes (ok bytes) source before after out out′) (sym (c .answer ∙ ap (λ (l : List ℕ). Writing.Written (length l)) same))
+        (record { answer = refl; leaves = record { table = c .table ∙ ap₂ tableAfter same t; output = written measured out f put } }))
+
+-- ---- retyping
+
+module _ (capacity : ℕ) (source : List ℕ) (v : Value) (e : read capacity source ≡ ok v) where
+  plan : IsPlan capacity source v
+  plan = read-ok capacity source v e
+
+  -- the plan is a stretch of its tokens
+  abbrev whole-plan : Stretch source 0 (length source)
+  whole-plan = record {
+    tokens = tokens v;
+    fit = tokens-fit v (plan .fits .valid .sound) (plan .fits .valid .limited);
+    text = plan .printed ∙ sym (tokens-write v []) ∙ ap (writeTokens (tokens v)) (sym (drop-of-length-le source {i = length source} (omega arith)));
+    inside = omega arith;
+  }
+
+  canonical-text : changedText Change.Canonical (tokens v) ≡ print (canonical v)
+  canonical-text = ap (λ (ts : List Token). writeTokens ts []) (sym (tokens-canonical v)) ∙ tokens-write (canonical v) []
+
+  canonical-within : Within (changedText Change.Canonical (tokens v)) 0
+  canonical-within = record { low = omega (arith, ap length canonical-text, canonical-shorter v, plan .fits .valid .short) }
+
+  pub canonical-rewrites : Rewrites source 0 (length source) Change.Canonical 0
+  canonical-rewrites = record { stretch = whole-plan; within = canonical-within }
+
+  pub canonical-puts : {out out′ : List ℕ} {n : ℕ} → ((g : Stretch source 0 (length source)) → Within (changedText Change.Canonical (g .tokens)) 0 → Puts (changedText Change.Canonical (g .tokens)) 0 out n out′) → Puts (print (canonical v)) 0 out n out′
+  canonical-puts {out} {out′} {n} p = subst (λ (t : List ℕ). Puts t 0 out n out′) canonical-text (p whole-plan canonical-within)

@@ -1,7 +1,7 @@
 pub mod Outputs
 pub mod Scanned
 pub mod Spelled
-pub mod TokenLists
+pub mod Tagged
 pub mod TokenLaws
 pub mod Respelled
 pub mod Rewritten

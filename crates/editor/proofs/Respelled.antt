@@ -1,29 +1,36 @@
--- The shortest text of a token that stands in the source is the canonical token's. Assumes nothing.
-use Prim.Native.Nat.{ℕ, zero, suc, _+_, _-_, _≤_}
+-- The text of a token that stands in the source, changed, is the changed token's. Assumes nothing.
+use Prim.Native.Nat.{ℕ, zero, suc, _+_, _-_, _≤_, _<_}
 use native.Mathlib.Nat.{add-zero}
+use native.Mathlib.Numerals.{add-one}
 use native.Mathlib.Omega.{arith}
-use mathlib.Core.Path.{_≡_, refl, sym, ap, ap₂, _∙_}
+use mathlib.Core.Path.{_≡_, refl, sym, ap, ap₂, _∙_, subst}
 use mathlib.Core.List.{List, [], _∷_, _++_, append-assoc}
 use mathlib.Core.Bool.{Bool, true, false}
 use lib.ListN.{length, getD, drop, length-append, length-drop}
 use lib.Seq.{slice, getD-drop}
+use borrow.Author.Tests.{le-leb, lt-leb}
 use Rattle.decimal.specs.Digits.{decimal, spelled}
 use Rattle.decimal.specs.Complement.{pattern}
+use Rattle.decimal.proofs.Decide.{Order, below, above, order}
 use Rattle.decimal.proofs.Numerals.{spelled-length, spelled-some}
 use Rattle.decimal.proofs.Complements.{InBits, sign-back, magnitude-back}
 use Rattle.format.specs.Bytes.{byte}
 use Rattle.format.specs.Kind.{Kind, tag}
-use Rattle.format.specs.Syntax.{null, bool, int, float, string, array, object, Spelling, Sign, unsigned, plus, minus, Literal, Quoted, Container, RefKind, objectRef, variableRef, refKind, writeNumber, writeSign}
+use Rattle.format.specs.Syntax.{null, bool, int, float, string, array, object, Spelling, Sign, unsigned, plus, minus, Literal, Quoted, Container, RefKind, objectRef, variableRef, refKind, Reference, writeNumber, writeSign}
 use Rattle.format.specs.Keys.{signed, integer}
-use Rattle.format.specs.Limits.{integerLimit}
+use Rattle.format.specs.Limits.{numberLimit, integerLimit}
 use Rattle.format.specs.Table.{word}
 use Rattle.format.specs.Canonical.{shortest, shortestSign}
+use Rattle.format.specs.Edit.{raised}
 use Rattle.format.proofs.Fronts.{sign-front, number-front, number-length, quoted-length}
 use Rattle.scanner.specs.declared.Text.{Text}
 use Rattle.editor.specs.Output.{withSign, signedDigits}
 use Rattle.editor.specs.Shortest.{numberedText, shortestBy, shortestText, QuotedBounds, Bounds}
-use Rattle.editor.specs.Tokens.{Token, scalar, reference, opening, closing, tokenTold}
-use Rattle.editor.proofs.TokenLists.{writeToken, canonicalToken, TokenFits}
+use Rattle.editor.specs.Tokens.{Token, scalar, reference, opening, closing, tokenTold, writeToken, canonicalToken, raisedToken, TokenFits}
+use Rattle.editor.specs.Rewriting.{ReferenceTag, Named, raisedText, respelledText, changedToken}
+use Rattle.editor.specs.declared.rewrite.Change.{Change}
+use Rattle.editor.proofs.Spelled.{raised-high, raised-low, raised-other}
+use Rattle.editor.proofs.Tagged.{Refers, tagged}
 use Rattle.editor.proofs.Outputs.{slice-of}
 use Rattle.editor.proofs.TokenLaws.{token-front, token-some}
 
@@ -57,11 +64,11 @@ module _ (s : List ℕ) (at : ℕ) where
   front : (b : ℕ) (r : List ℕ) → drop at s ≡ b ∷ 58 ∷ r → slice at (at + 2) s ≡ b ∷ 58 ∷ []
   front b r e = slice-of s at [] (b ∷ 58 ∷ []) r e at (at + 2) (sym (add-zero at)) refl
 
-  -- a number between its tag and a tail
-  numbered-is : (b : ℕ) (w : Spelling) (n : ℕ) (tail r : List ℕ) → drop at s ≡ b ∷ 58 ∷ writeNumber w n (tail ++ r) → (from to : ℕ) → from ≡ at + 2 + length (spelled (w .zeros) n) → to ≡ from + length tail
-      → numberedText s at n from to ≡ b ∷ 58 ∷ writeNumber shortest n tail
-  numbered-is b w n tail r e from to f g =
-      ap₂ _++_ (front b (writeNumber w n (tail ++ r)) e) (ap (λ (l : List ℕ). decimal n ++ l) (slice-of s at (b ∷ 58 ∷ spelled (w .zeros) n) tail r e from to (omega arith) g))
+  -- a number m in the place of the n between a tag and a tail
+  numbered-is : (b : ℕ) (w : Spelling) (n m : ℕ) (tail r : List ℕ) → drop at s ≡ b ∷ 58 ∷ writeNumber w n (tail ++ r) → (from to : ℕ) → from ≡ at + 2 + length (spelled (w .zeros) n) → to ≡ from + length tail
+      → numberedText s at m from to ≡ b ∷ 58 ∷ writeNumber shortest m tail
+  numbered-is b w n m tail r e from to f g =
+      ap₂ _++_ (front b (writeNumber w n (tail ++ r)) e) (ap (λ (l : List ℕ). decimal m ++ l) (slice-of s at (b ∷ 58 ∷ spelled (w .zeros) n) tail r e from to (omega arith) g))
 
   module _ (x : Text) (t : Token) (st : Stands s at t x) where
     -- where the token ends
@@ -102,15 +109,15 @@ module _ (s : List ℕ) (at : ℕ) (x : Text) where
       let c : x .content ≡ at + 1 + 3 + length (writeNumber w n []) = ap (λ (u : Text). u .content) (st .tells) in
       by-tag 115 _ _ e (
       ap (λ (k : ℕ). numberedText s at k (x .content - 2) (x .next)) (ap (λ (u : Text). u .size) (st .tells))
-      ∙ numbered-is s at 115 w n tail (drop (x .next) s) e (x .content - 2) (x .next) (omega (arith, number-length w n [], spelled-length (w .zeros) n))
+      ∙ numbered-is s at 115 w n n tail (drop (x .next) s) e (x .content - 2) (x .next) (omega (arith, number-length w n [], spelled-length (w .zeros) n))
       (omega (arith, number-length w n [], number-length w n (tail ++ drop (x .next) s), length-append tail (drop (x .next) s), st .inside, length-drop at s, length-drop (x .next) s, ap length e))
       )
 
-  -- a number, and a tail that ends the token
-  tail-of : (b : ℕ) (w : Spelling) (n k : ℕ) (tail : List ℕ) → x .next ≤ length s → drop at s ≡ b ∷ 58 ∷ writeNumber w n (tail ++ drop (x .next) s) → k ≡ length tail
-      → numberedText s at n (x .next - k) (x .next) ≡ b ∷ 58 ∷ writeNumber shortest n tail
-  tail-of b w n k tail h e f =
-      let m : x .next ≡ at + 2 + length (spelled (w .zeros) n) + length tail = omega (
+  -- a number m in the place of the n before a tail that ends the token
+  pub tail-of : (b : ℕ) (w : Spelling) (n m k : ℕ) (tail : List ℕ) → x .next ≤ length s → drop at s ≡ b ∷ 58 ∷ writeNumber w n (tail ++ drop (x .next) s) → k ≡ length tail
+      → numberedText s at m (x .next - k) (x .next) ≡ b ∷ 58 ∷ writeNumber shortest m tail
+  tail-of b w n m k tail h e f =
+      let z : x .next ≡ at + 2 + length (spelled (w .zeros) n) + length tail = omega (
         arith,
         h,
         length-drop at s,
@@ -120,14 +127,14 @@ module _ (s : List ℕ) (at : ℕ) (x : Text) where
         spelled-length (w .zeros) n,
         length-append tail (drop (x .next) s),
       ) in
-      numbered-is s at b w n tail (drop (x .next) s) e (x .next - k) (x .next) (omega arith) (omega arith)
+      numbered-is s at b w n m tail (drop (x .next) s) e (x .next - k) (x .next) (omega arith) (omega arith)
 
   respelled-array : (w : Spelling) (n : ℕ) → Stands s at (opening (record { container = array; spelling = w }) n) x
       → shortestText s at x ≡ writeToken (canonicalToken (opening (record { container = array; spelling = w }) n)) []
   respelled-array w n st =
       by-tag 97 _ _ (st .written) (
       ap (λ (k : ℕ). numberedText s at k (x .next - 2) (x .next)) (ap (λ (u : Text). u .link) (st .tells))
-      ∙ tail-of 97 w n 2 (58 ∷ 123 ∷ []) (st .inside) (st .written) refl
+      ∙ tail-of 97 w n n 2 (58 ∷ 123 ∷ []) (st .inside) (st .written) refl
       )
 
   respelled-reference : (k : RefKind) (w : Spelling) (n : ℕ) → Stands s at (reference (record { kind = k; spelling = w; named = n })) x
@@ -139,7 +146,7 @@ module _ (s : List ℕ) (at : ℕ) (x : Text) where
       referred variableRef = refl
 
       named : numberedText s at (x .content) (x .next - 1) (x .next) ≡ writeToken (canonicalToken (reference (record { kind = k; spelling = w; named = n }))) []
-      named = ap (λ (c : ℕ). numberedText s at c (x .next - 1) (x .next)) (ap (λ (u : Text). u .content) (st .tells)) ∙ tail-of (tag (refKind k)) w n 1 (59 ∷ []) (st .inside) (st .written) refl
+      named = ap (λ (c : ℕ). numberedText s at c (x .next - 1) (x .next)) (ap (λ (u : Text). u .content) (st .tells)) ∙ tail-of (tag (refKind k)) w n n 1 (59 ∷ []) (st .inside) (st .written) refl
 
   respelled-object : (q : Quoted) (v : Spelling) (n : ℕ) → Stands s at (opening (record { container = object q; spelling = v }) n) x
       → shortestText s at x ≡ writeToken (canonicalToken (opening (record { container = object q; spelling = v }) n)) []
@@ -156,7 +163,7 @@ module _ (s : List ℕ) (at : ℕ) (x : Text) where
       let c : x .content ≡ at + 1 + 3 + length (writeNumber w m []) = ap (λ (u : Text). u .content) (st .tells) in
       let z : x .size ≡ m = ap (λ (u : Text). u .size) (st .tells) in
       let named : numberedText s at m (x .content - 2) (x .content + x .size + 2) ≡ 79 ∷ 58 ∷ writeNumber shortest m tail
-      = numbered-is s at 79 w m tail rest e (x .content - 2) (x .content + x .size + 2) (omega (arith, number-length w m [], spelled-length (w .zeros) m)) (omega (arith, length-append (q .text) (34 ∷ 58 ∷ []))) in
+      = numbered-is s at 79 w m m tail rest e (x .content - 2) (x .content + x .size + 2) (omega (arith, number-length w m [], spelled-length (w .zeros) m)) (omega (arith, length-append (q .text) (34 ∷ 58 ∷ []))) in
       let brace : slice (x .next - 2) (x .next) s ≡ 58 ∷ 123 ∷ [] = slice-of s at (79 ∷ 58 ∷ before) (58 ∷ 123 ∷ []) r f (x .next - 2) (x .next) (omega arith) (omega arith) in
       by-tag 79 _ _ (st .written) (
       ap₂ _++_ (ap (λ (k : ℕ). numberedText s at k (x .content - 2) (x .content + x .size + 2)) z ∙ named) (ap₂ (λ (k : ℕ) (l : List ℕ). decimal k ++ l) (ap (λ (u : Text). u .link) (st .tells)) brace)
@@ -178,6 +185,57 @@ module _ (s : List ℕ) (at : ℕ) (x : Text) where
   respelled (reference r) st = respelled-reference (r .kind) (r .spelling) (r .named) st
   respelled (opening h n) st = respelled-opening (h .container) (h .spelling) n st
   respelled closing st = by-tag 125 _ _ (st .written) (whole s at x closing st)
+
+-- ---- raised
+
+raises : (k : ℕ) (r : Reference) → k ≤ r .named → raised k r ≡ record { kind = r .kind; spelling = shortest; named = suc (r .named) }
+raises k r h = rw (le-leb k (r .named) h, raised)
+
+keeps : (k : ℕ) (r : Reference) → r .named < k → raised k r ≡ r
+keeps k r h = rw (lt-leb k (r .named) h, raised)
+
+module _ (k : ℕ) (s : List ℕ) (at : ℕ) (x : Text) where
+  raised-reference : (r : Reference) → Stands s at (reference r) x → ReferenceTag (getD s at 0) → raisedText k s at x ≡ writeToken (raisedToken k (reference r)) []
+  raised-reference r st o = by (order (r .named) k)
+    where
+      named : x .content ≡ r .named
+      named = ap (λ (u : Text). u .content) (st .tells)
+
+      by : Order (r .named) k → raisedText k s at x ≡ writeToken (raisedToken k (reference r)) []
+      by (below h) = raised-low k s at x o (omega (arith, named)) ∙ whole s at x (reference r) st ∙ ap (λ (q : Reference). writeToken (reference q) []) (sym (keeps k r h))
+      by (above h) =
+          raised-high k s at x o (omega (arith, named))
+          ∙ ap (λ (m : ℕ). numberedText s at m (x .next - 1) (x .next)) (add-one (x .content) ∙ ap suc named)
+          ∙ tail-of s at x (tag (refKind (r .kind))) (r .spelling) (r .named) (suc (r .named)) 1 (59 ∷ []) (st .inside) (st .written) refl
+          ∙ ap (λ (q : Reference). writeToken (reference q) []) (sym (raises k r h))
+
+  -- the first byte of what stands there is the token's
+  first-of : (t : Token) → Stands s at t x → getD s at 0 ≡ tagged t (drop (x .next) s) .byte
+  first-of t st = let g = tagged t (drop (x .next) s) in first-byte s at (g .byte) (g .behind) (st .written ∙ g .is)
+
+  other : (t : Token) → Stands s at t x → (Refers t → ⊥) → raisedText k s at x ≡ writeToken t []
+  other t st n = raised-other k s at x (λ o. n (tagged t (drop (x .next) s) .refers (subst ReferenceTag (first-of t st) o))) ∙ whole s at x t st
+
+  -- A REFERENCE RAISED, ALL ELSE AS IT STANDS
+  pub raised-is : (t : Token) → Stands s at t x → raisedText k s at x ≡ writeToken (raisedToken k t) []
+  raised-is (scalar y) st = other (scalar y) st (λ e. e)
+  raised-is (reference r) st = raised-reference r st (subst ReferenceTag (sym (first-of (reference r) st)) (tagged (reference r) (drop (x .next) s) .referred tt))
+  raised-is (opening h n) st = other (opening h n) st (λ e. e)
+  raised-is closing st = other closing st (λ e. e)
+
+  named-bound : (t : Token) → Stands s at t x → Refers t → x .content ≤ numberLimit
+  named-bound (scalar y) st e = absurd e
+  named-bound (reference r) st e = omega (arith, st .fits, ap (λ (u : Text). u .content) (st .tells))
+  named-bound (opening h n) st e = absurd e
+  named-bound closing st e = absurd e
+
+  pub named : (t : Token) → Stands s at t x → Named s at x
+  named t st o = named-bound t st (tagged t (drop (x .next) s) .refers (subst ReferenceTag (first-of t st) o))
+
+-- what is written of a token is the changed token
+pub changed-is : (c : Change) (s : List ℕ) (at : ℕ) (x : Text) (t : Token) → Stands s at t x → respelledText c s at x ≡ writeToken (changedToken c t) []
+changed-is Change.Canonical s at x t st = respelled s at x t st
+changed-is (Change.Raise k) s at x t st = raised-is k s at x t st
 
 -- ---- what is copied stands in the source
 

@@ -3,7 +3,7 @@ use Prim.Native.Nat.{ℕ, _≤_, _<_}
 use native.Mathlib.Omega.{arith}
 use mathlib.Core.Path.{_≡_, refl, sym, ap, ap₂, _∙_}
 use mathlib.Core.List.{List, [], _∷_, _++_, map, map-append}
-use lib.ListN.{length}
+use lib.ListN.{length, length-append}
 use Rattle.format.specs.Bytes.{byte}
 use Rattle.format.specs.Kind.{tag}
 use Rattle.format.specs.Tree.{leaf, ref, branch, none, pair, count}
@@ -16,8 +16,7 @@ use Rattle.format.proofs.Fronts.{number-front, scalar-front, container-front}
 use Rattle.format.proofs.NormalForm.{canonicalPairs, count-canonical}
 use Rattle.scanner.specs.Scans.{scalarBehind}
 use Rattle.scanner.proofs.Printed.{named-printed, array-printed, object-printed, scalarKind, scalar-tagged, scalar-printed, behindTag}
-use Rattle.editor.specs.Tokens.{Token, scalar, reference, opening, closing, tokenBehind, readToken}
-use Rattle.editor.proofs.TokenLists.{keyScalar, tokens, tokensIn, writeToken, writeTokens, canonicalToken, TokenFits, AllFit}
+use Rattle.editor.specs.Tokens.{Token, scalar, reference, opening, closing, tokenBehind, readToken, keyScalar, tokens, tokensIn, writeToken, writeTokens, canonicalToken, TokenFits, AllFit}
 
 -- ---- a plan is its tokens
 
@@ -107,6 +106,14 @@ token-some (opening h n) r = some (h .container)
     some array = omega arith
     some (object q) = omega arith
 token-some closing r = omega arith
+
+-- a token is longer than what follows it
+pub token-longer : (t : Token) (r : List ℕ) → length r < length (writeToken t r)
+token-longer t r = omega (arith, ap length (token-front t [] r), length-append (writeToken t []) r, token-some t [])
+
+pub tokens-longer : (ts : List Token) (r : List ℕ) → length r ≤ length (writeTokens ts r)
+tokens-longer [] r = omega arith
+tokens-longer (t ∷ ts) r = omega (arith, tokens-longer ts r, token-longer t (writeTokens ts r))
 
 -- a scalar's tag is no other token's
 scalar-token : (x : Scalar) (l : ℕ) (s r : List ℕ) → scalarBehind (tag (scalarKind x)) l s ≡ ok (x, r) → tokenBehind (tag (scalarKind x)) l s ≡ ok (scalar x, r)

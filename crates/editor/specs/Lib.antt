@@ -1,4 +1,5 @@
 pub mod Promise
+pub mod Ends
 pub mod Output
 pub mod Tokens
 pub mod Shortest

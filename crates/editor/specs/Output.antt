@@ -8,7 +8,6 @@ use lib.Seq.{sets}
 use Rattle.decimal.specs.Digits.{decimal}
 use Rattle.decimal.specs.Complement.{isNegative, magnitude}
 use Rattle.format.specs.Bytes.{byte}
-use Rattle.format.specs.Limits.{sourceLimit}
 
 abbrev pub withSign : (negative : Bool) → List ℕ → List ℕ
 withSign true t = byte "-" ∷ t
@@ -18,9 +17,13 @@ withSign false t = t
 unfoldable pub signedDigits : (word : ℕ) → List ℕ
 signedDigits w = withSign (isNegative 64 w) (decimal (magnitude 64 w))
 
--- a text that ends within 65,536 bytes, as every canonical text does: no index overflows
+-- far above every text that is measured, and far below what overflows
+abbrev pub indexLimit : ℕ
+indexLimit = 1048576
+
+-- a text whose end is an index
 pub record Within (t : List ℕ) (w : ℕ) : Type 0 where
-  pub low : w + length t ≤ sourceLimit
+  pub low : w + length t ≤ indexLimit
 
 -- a text stored from index `w` on, as far as there is room, and the index behind it
 pub record Puts (t : List ℕ) (w : ℕ) (out : List ℕ) (e : ℕ) (out′ : List ℕ) : Type 0 where

@@ -1,11 +1,16 @@
 -- Tokens: what a loop over a plan's bytes meets, one after another.
-use mathlib.Core.List.{[], _∷_}
+use mathlib.Core.List.{List, [], _∷_, _++_}
 use mathlib.Core.Bool.{true, false}
-use Prim.Native.Nat.{ℕ, _+_}
+use Prim.Native.Nat.{ℕ, _+_, _-_, _≤_}
 use lib.Dec.{eqb}
 use Rattle.format.specs.Bytes.{byte}
-use Rattle.format.specs.Kind.{Kind, tag}
-use Rattle.format.specs.Syntax.{Spelling, Scalar, Container, Head, RefKind, objectRef, variableRef, Reference}
+use Rattle.format.specs.Kind.{Kind, tag, isTagOf}
+use Rattle.format.specs.Tree.{leaf, ref, branch, none, pair, count, one}
+use Rattle.format.specs.Syntax.{intKey, stringKey, int, string, Key, Spelling, Scalar, Container, Head, RefKind, objectRef, variableRef, refKind, Reference, Value, Values, writeNumber, writeScalar, writeContainer}
+use Rattle.format.specs.Limits.{numberLimit}
+use Rattle.format.specs.Fits.{ScalarFits, ContainerFits}
+use Rattle.format.specs.Edit.{raised}
+use Rattle.format.specs.Canonical.{canonicalScalar, canonicalHead, canonicalReference}
 use Rattle.format.specs.Answer.{ok, refused, _>>=_}
 use Rattle.scanner.specs.Scans.{Reader, Told, namedText, scalarBehind, headText, tell, scalarTold, headTold}
 
@@ -51,3 +56,87 @@ tokenTold at (scalar x) next = scalarTold (at + 1) x next
 tokenTold at (reference r) next = tell (r .named) 0 0 next
 tokenTold at (opening h n) next = headTold (at + 1) (h .container, (h .spelling, n)) next
 tokenTold at closing next = tell 0 0 0 next
+
+-- ---- a plan as the list of its tokens, in the order of its bytes
+
+abbrev pub keyScalar : Key → Scalar
+keyScalar (intKey x) = int x
+keyScalar (stringKey q) = string q
+
+abbrev mutual
+  pub tokens : Value → List Token
+  tokens (leaf x) = scalar x ∷ []
+  tokens (ref r) = reference r ∷ []
+  tokens (branch h ps) = opening h (count ps) ∷ tokensIn ps ++ (closing ∷ [])
+
+  pub tokensIn : Values → List Token
+  tokensIn none = []
+  tokensIn (pair k v ps) = scalar (keyScalar k) ∷ tokens v ++ tokensIn ps
+
+-- ---- their bytes, put before the bytes that follow
+
+abbrev pub writeToken : Token → List ℕ → List ℕ
+writeToken (scalar x) r = writeScalar x r
+writeToken (reference n) r = tag (refKind (n .kind)) ∷ byte ":" ∷ writeNumber (n .spelling) (n .named) (byte ";" ∷ r)
+writeToken (opening h n) r = writeContainer (h .container) (writeNumber (h .spelling) n (byte ":" ∷ byte "{" ∷ r))
+writeToken closing r = byte "}" ∷ r
+
+abbrev pub writeTokens : List Token → List ℕ → List ℕ
+writeTokens [] r = r
+writeTokens (t ∷ ts) r = writeToken t (writeTokens ts r)
+
+abbrev pub canonicalToken : Token → Token
+canonicalToken (scalar x) = scalar (canonicalScalar x)
+canonicalToken (reference r) = reference (canonicalReference r)
+canonicalToken (opening h n) = opening (canonicalHead h) n
+canonicalToken closing = closing
+
+abbrev pub raisedToken : (k : ℕ) → Token → Token
+raisedToken k (scalar x) = scalar x
+raisedToken k (reference r) = reference (raised k r)
+raisedToken k (opening h n) = opening h n
+raisedToken k closing = closing
+
+-- what reading asks of a token
+abbrev pub TokenFits : Token → Type 0
+TokenFits (scalar x) = ScalarFits x
+TokenFits (reference r) = r .named ≤ numberLimit
+TokenFits (opening h n) = ContainerFits (h .container) × (n ≤ numberLimit)
+TokenFits closing = Unit {0}
+
+abbrev pub AllFit : List Token → Type 0
+AllFit [] = Unit {0}
+AllFit (t ∷ ts) = TokenFits t × AllFit ts
+
+-- ---- what tokens count: the nodes, the containers that they open, and those that they close
+
+abbrev pub opens : Token → ℕ
+opens (scalar x) = 0
+opens (reference r) = 0
+opens (opening h n) = 1
+opens closing = 0
+
+abbrev pub closes : Token → ℕ
+closes (scalar x) = 0
+closes (reference r) = 0
+closes (opening h n) = 0
+closes closing = 1
+
+-- the same by a token's first byte
+abbrev pub opensOf : (first : ℕ) → ℕ
+opensOf b = one (isTagOf (Kind.array ∷ Kind.object ∷ []) b)
+
+abbrev pub closesOf : (first : ℕ) → ℕ
+closesOf b = one (eqb b (byte "}"))
+
+abbrev pub nodesOf : List Token → ℕ
+nodesOf [] = 0
+nodesOf (t ∷ ts) = (1 - closes t) + nodesOf ts
+
+abbrev pub opened : List Token → ℕ
+opened [] = 0
+opened (t ∷ ts) = opens t + opened ts
+
+abbrev pub closed : List Token → ℕ
+closed [] = 0
+closed (t ∷ ts) = closes t + closed ts

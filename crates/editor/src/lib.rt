@@ -1,14 +1,16 @@
 // Writes plans: the canonical text of the one given.
-use crate::canonical::write_canonical;
+use crate::rewrite::Change;
+use crate::rewrite::rewrite;
 use reader::Reading;
 ghost use mathlib.Core.Path.{_≡_};
 ghost use lib.ListN.{length};
 ghost use Rattle.format.specs.Reading.{capacityOf};
 ghost use Rattle.format.specs.Writing.{fitsIn, canonicalBytes};
 ghost use Rattle.editor.specs.Promise.{Writes};
+ghost use Rattle.editor.specs.Ends.{Refuses, Settles};
 
-mod canonical;
 mod output;
+mod rewrite;
 mod shortest;
 mod token;
 
@@ -31,6 +33,24 @@ fn has_room(room: usize, length: usize) -> bool
     length <= SOURCE_LIMIT
 }
 
+// A refusal at 0: every word of the table is zero.
+fn refuse(table: &mut [u64], code: u8) -> Writing
+    ensures { λ r. ⌜ Refuses code (now (table .entry)) (now (table .exit)) r ⌝ }
+{
+    reader::clear(table);
+    Writing::Refused { code, at: 0 }
+}
+
+// A plan is written: it is read into the table. That reading accepts it is a theorem, so its answer is not looked at.
+fn settle(written: &[u8], table: &mut [u64]) -> Writing
+    ensures { λ r. ⌜ Settles (now (written .entry)) (now (table .entry)) (now (table .exit)) r ⌝ }
+{
+    reader::read(written, table);
+    Writing::Written {
+        length: written.len(),
+    }
+}
+
 // Retyping: writes the canonical text of a plan, and leaves the table that reading it leaves. A refusal writes nothing, and makes every word of the table zero.
 pub fn canonicalize(source: &[u8], table: &mut [u64], out: &mut [u8]) -> Writing
     ensures { λ r. ⌜ Writes (canonicalBytes (capacityOf (now (table .entry))) (length (now (out .entry))) (now (source .entry))) (now (source .entry)) (now (table .entry)) (now (table .exit)) (now (out .entry)) (now (out .exit)) r ⌝ }
@@ -43,15 +63,12 @@ pub fn canonicalize(source: &[u8], table: &mut [u64], out: &mut [u8]) -> Writing
         } => {
             let room = out.len();
             // Written where there is no room for any of it, the text is only measured.
-            let length = write_canonical(source, &mut out[..0]);
+            let length = rewrite(source, 0, source.len(), Change::Canonical, &mut out[..0], 0);
             if !has_room(room, length) {
-                reader::clear(table);
-                return Writing::Refused { code: 14, at: 0 };
+                return refuse(table, 14);
             }
-            write_canonical(source, out);
-            let written = &out[..length];
-            reader::read(written, table);
-            Writing::Written { length }
+            rewrite(source, 0, source.len(), Change::Canonical, out, 0);
+            settle(&out[..length], table)
         }
     }
 }

@@ -10,7 +10,7 @@ ghost use Rattle.editor.specs.Output.{Within, Puts};
 ghost use Rattle.editor.specs.Shortest.{numberedText, signedText, objectHeadText, shortestText, QuotedBounds, Bounds};
 
 // A tag and its colon, a number in shortest form, and the bytes from one index up to another.
-fn numbered(
+pub(crate) fn numbered(
     source: &[u8],
     at: usize,
     n: u64,

@@ -1,5 +1,6 @@
 -- Laws of answers. Assumes nothing.
-use mathlib.Core.Path.{_≡_, refl}
+use mathlib.Core.Path.{_≡_, refl, ap₂}
+use mathlib.Core.Logic.{_⊎_, inl, inr}
 use mathlib.Core.Bool.{Bool, true, false}
 use Prim.Native.Nat.{ℕ}
 use native.Mathlib.Omega.{arith}
@@ -9,6 +10,9 @@ use Rattle.format.specs.Answer.{Answer, ok, refused, _>>=_, require}
 pub ok-same : {A : Type 0} {a b : A} → ok a ≡ ok b → a ≡ b
 ok-same e = cc
 
+pub refused-same : {A : Type 0} {n p m q : ℕ} → _≡_ {A = Answer A} (refused n p) (refused m q) → (n ≡ m) × (p ≡ q)
+refused-same e = (cc, cc)
+
 pub not-both : {A : Type 0} {n p : ℕ} {a : A} → refused n p ≡ ok a → ⊥
 not-both e = let z : _≡_ {A = ℕ} 0 1 = cc in omega arith
 
@@ -16,6 +20,11 @@ not-both e = let z : _≡_ {A = ℕ} 0 1 = cc in omega arith
 pub bind-ok : {A B : Type 0} (a : Answer A) (f : A → Answer B) (b : B) → (a >>= f) ≡ ok b → (x : A) × (a ≡ ok x) × (f x ≡ ok b)
 bind-ok (ok a) f b e = (a, refl, e)
 bind-ok (refused n p) f b e = absurd (not-both e)
+
+-- where the whole is refused, the first part is or the second
+pub bind-refused : {A B : Type 0} (a : Answer A) (f : A → Answer B) (n p : ℕ) → (a >>= f) ≡ refused n p → (a ≡ refused n p) ⊎ ((x : A) × (a ≡ ok x) × (f x ≡ refused n p))
+bind-refused (ok a) f n p e = inr (a, refl, e)
+bind-refused (refused c q) f n p e = let s = refused-same e in inl (ap₂ refused (s .0) (s .1))
 
 pub require-ok : (t : Bool) (n p : ℕ) (x : Unit {0}) → require t n p ≡ ok x → T t
 require-ok true n p x e = tt

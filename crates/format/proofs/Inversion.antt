@@ -22,14 +22,14 @@ use Rattle.format.proofs.Texts.{tag-ok, expect-ok, number-ok, int-ok, q
 -- ---- values and pairs
 
 module _ (set : Setting) where
-  record GotKey (c : Container) (earlier : List Key) (before : ℕ) (s : List ℕ) (q : Key × List ℕ) : Type 0 where
-    text : s ≡ writeKey (q .0) (q .1)
-    fits : KeyFits (q .0)
+  pub record GotKey (c : Container) (earlier : List Key) (before : ℕ) (s : List ℕ) (q : Key × List ℕ) : Type 0 where
+    pub text : s ≡ writeKey (q .0) (q .1)
+    pub fits : KeyFits (q .0)
     allow : T (allowed c (q .0))
     fresh : T (not (hasKey (q .0) earlier))
     small : before < set .capacity
 
-  key-ok : (c : Container) (earlier : List Key) (before : ℕ) (s : List ℕ) (q : Key × List ℕ) → readKey set (isArray c) earlier before s ≡ ok q → GotKey c earlier before s q
+  pub key-ok : (c : Container) (earlier : List Key) (before : ℕ) (s : List ℕ) (q : Key × List ℕ) → readKey set (isArray c) earlier before s ≡ ok q → GotKey c earlier before s q
   unfolding readKey
   key-ok h earlier before s q e =
       let l : ℕ = position set s in
@@ -46,9 +46,9 @@ module _ (set : Setting) where
         small = ltb→lt before (set .capacity) (require-ok (ltb before (set .capacity)) 7 l (b .0) (b .1));
       })
 
-  record Got (d : ℕ) (seen : Seen) (before : ℕ) (s : List ℕ) (q : Value × List ℕ) : Type 0 where
-    text : s ≡ write (q .0) (q .1)
-    sound : Sound (q .0)
+  pub record Got (d : ℕ) (seen : Seen) (before : ℕ) (s : List ℕ) (q : Value × List ℕ) : Type 0 where
+    pub text : s ≡ write (q .0) (q .1)
+    pub sound : Sound (q .0)
     limited : Limited (q .0)
     backward : Backward seen (q .0)
     shallow : Shallow d (q .0)
@@ -177,7 +177,7 @@ module _ (set : Setting) where
     body-ok Kind.objectReference l seen before s q m e = ref-ok objectRef l seen before s q m e
     body-ok Kind.variableReference l seen before s q m e = ref-ok variableRef l seen before s q m e
 
-  value-ok : (d : ℕ) (seen : Seen) (before : ℕ) (s : List ℕ) (q : Value × List ℕ) → readValue set d seen before s ≡ ok q → Got d seen before s q
+  pub value-ok : (d : ℕ) (seen : Seen) (before : ℕ) (s : List ℕ) (q : Value × List ℕ) → readValue set d seen before s ≡ ok q → Got d seen before s q
   value-ok zero seen before s q e =
       let a = bind-ok (tagOf kinds 3 (position set s) s) _ q e in
       absurd (not-both (a .2))

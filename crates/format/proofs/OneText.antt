@@ -56,7 +56,7 @@ module _ {K L H R : Type 0} (own : R → Bool) where
     ranked : rankIn ps place rest ≡ i
 
   mutual
-    paths-length : (v : Tree K L H R) → length (paths own v) ≡ ordinals own v
+    pub paths-length : (v : Tree K L H R) → length (paths own v) ≡ ordinals own v
     paths-length (leaf l) = refl
     paths-length (ref r) = length-only (own r) []
     paths-length (branch h ps) = ap suc (pathsIn-length 0 ps)

@@ -83,7 +83,7 @@ reference-printed l seen n r f p q = rw (number-printed l (n .spelling) (n .name
 -- ---- values and pairs
 
 module _ (set : Setting) where
-  key-printed : (c : Container) (earlier : List Key) (before : ℕ) (k : Key) (r : List ℕ) → before < set .capacity → KeyFits k → T (allowed c k) → T (not (hasKey k earlier))
+  pub key-printed : (c : Container) (earlier : List Key) (before : ℕ) (k : Key) (r : List ℕ) → before < set .capacity → KeyFits k → T (allowed c k) → T (not (hasKey k earlier))
       → readKey set (isArray c) earlier before (writeKey k r) ≡ ok (k, r)
   unfolding readKey keyText
   key-printed array earlier before (intKey x) r b f a d = rw (lt-ltb before (set .capacity) b, int-printed (position set (writeKey (intKey x) r)) x r f, T-true (not (hasKey (intKey x) earlier)) d)
@@ -93,7 +93,7 @@ module _ (set : Setting) where
   key-printed (object t) earlier before (stringKey q) r b f a d =
       rw (lt-ltb before (set .capacity) b, quoted-printed (position set (writeKey (stringKey q) r)) (byte ";") q r f, T-true (not (hasKey (stringKey q) earlier)) d)
 
-  scalar-printed : (d : ℕ) (seen : Seen) (before : ℕ) (x : Scalar) (r : List ℕ) → before < set .capacity → ScalarFits x → readValue set (suc d) seen before (writeScalar x r) ≡ ok (leaf x, r)
+  pub scalar-printed : (d : ℕ) (seen : Seen) (before : ℕ) (x : Scalar) (r : List ℕ) → before < set .capacity → ScalarFits x → readValue set (suc d) seen before (writeScalar x r) ≡ ok (leaf x, r)
   unfolding readBody boolText
   scalar-printed d seen before null r b f = rw (lt-ltb before (set .capacity) b)
   scalar-printed d seen before (bool true) r b f = rw (lt-ltb before (set .capacity) b)

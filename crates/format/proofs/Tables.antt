@@ -38,7 +38,7 @@ module _ (rows : List Node) (to : ℕ → ℕ) where
   first-end (branch h ps) o i n = branch-carries o n (h .container) (count ps) (i + suc (nodesIn ps)) .end
 
   -- word 5: "index of the first node after this one and all it holds"
-  end-is : (v : Value) (o i n : ℕ) → InTable rows to o i n v → nodeAt rows i .end ≡ i + nodes v
+  pub end-is : (v : Value) (o i n : ℕ) → InTable rows to o i n v → nodeAt rows i .end ≡ i + nodes v
   end-is v o i n t = ap (λ (x : Node). x .end) (node-is v o i n t) ∙ first-end v o i n
 
   -- ---- following the paths of the numbered values leads to the nodes that carry the numbers
@@ -185,7 +185,7 @@ module _ (v : Value) where
   abbrev rows : List Node
   rows = table (targetOf v) 0 0 1 v
 
-  whole : InTable rows (targetOf v) 0 0 1 v
+  pub whole : InTable rows (targetOf v) 0 0 1 v
   whole = record { rest = []; here = sym (append-nil rows) }
 
   -- the index of an ordinal's node, by the ordinal's path; and that node carries it

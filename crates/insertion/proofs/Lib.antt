@@ -1,1 +1,9 @@
 pub mod Located
+pub mod SiteRows
+pub mod Grown
+pub mod Meanings
+pub mod Sizes
+pub mod Kept
+pub mod PairTexts
+pub mod Inserting
+pub mod Refusing

@@ -1,0 +1,17 @@
+-- How a service that writes ends.
+use mathlib.Core.Path.{_≡_}
+use mathlib.Core.List.{List}
+use Prim.Native.Nat.{ℕ}
+use lib.ListN.{length}
+use Rattle.format.specs.Reading.{cleared, tableAfter}
+use Rattle.editor.specs.declared.Writing.{Writing}
+
+-- a refusal at 0
+pub record Refuses (code : ℕ) (t t′ : List ℕ) (r : Writing) : Type 0 where
+  pub answer : r ≡ Writing.Refused code 0
+  pub table : t′ ≡ cleared t
+
+-- the bytes written are read
+pub record Settles (bytes t t′ : List ℕ) (r : Writing) : Type 0 where
+  pub answer : r ≡ Writing.Written (length bytes)
+  pub table : t′ ≡ tableAfter bytes t

@@ -1,0 +1,30 @@
+-- `keys::same_key` meets its contract. Assumes nothing.
+use mathlib.Core.Path.{sym, ap₂, _∙_}
+use Rattle.keys.proofs.SameWords as same
+use Rattle.format.specs.Bytes.{sameBytes}
+use borrow.Author.Needs.{needs}
+use Rattle.keys.proofs.same_key.Statement.{statement}
+use Rattle.keys.proofs.same_key.Tie as tie
+
+returns : tie.Need-returns
+returns c = sym (same.tags-differ _ _ _ _ (c .if1 .taken))
+
+returns-2 : tie.Need-returns-2
+returns-2 c = sym (same.contents _ _ _ _ (c .before .before .before .before .if1 .left) (c .before .before .if2 .taken))
+
+text-of-requires : tie.Need-text-of-requires
+text-of-requires c κs = search needs
+
+text-of-requires-2 : tie.Need-text-of-requires-2
+text-of-requires-2 c κs = search needs
+
+same-bytes-requires : tie.Need-same-bytes-requires
+same-bytes-requires c κs = search needs
+
+returns-3 : tie.Need-returns-3
+returns-3 c = c .same-bytes .ensures ∙ ap₂ sameBytes (c .before .before .text-of .ensures) (c .before .text-of2 .ensures) ∙ sym (same.texts _ _ _ _ (c .before .before .before .before .before .if1 .left) (c .before .before .before .if2 .left))
+
+pub same-key-spec : {M : Type 1} → statement M
+same-key-spec =
+    tie.close
+    (tie.spec returns returns-2 text-of-requires text-of-requires-2 same-bytes-requires returns-3)

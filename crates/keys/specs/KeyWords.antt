@@ -1,0 +1,39 @@
+-- Keys as the words of their nodes and the source say them.
+use mathlib.Core.Path.{_≡_}
+use mathlib.Core.List.{List, []}
+use mathlib.Core.Bool.{Bool, true, false, _&&_}
+use Prim.Native.Nat.{ℕ, _+_, _-_, _≤_}
+use lib.Dec.{leb, eqb}
+use lib.ListN.{length, take, drop}
+use Rattle.format.specs.Bytes.{sameBytes}
+use Rattle.format.specs.Kind.{Kind, tag}
+use Rattle.format.specs.Syntax.{intKey, stringKey, Key}
+use Rattle.format.specs.Keys.{integer}
+use Rattle.format.specs.Fits.{KeyFits}
+use Rattle.format.specs.Table.{word}
+use Rattle.keys.specs.declared.KeyWords.{KeyWords}
+
+-- the bytes of a text that stands at an offset
+unfoldable pub textOf : List ℕ → (offset size : ℕ) → List ℕ
+textOf s o n = elim (leb o (length s) && leb n (length s - o)) [ true ↦ take n (drop o s) | false ↦ [] ]
+
+-- "Two keys of one container are equal when both are i with equal value or both are s with equal bytes.", by their words
+unfoldable pub sameWords : (s : List ℕ) → KeyWords → (t : List ℕ) → KeyWords → Bool
+sameWords s a t b = eqb (a .tag) (b .tag)
+    && (elim (eqb (a .tag) (tag Kind.int)) [ true ↦ eqb (a .content) (b .content) | false ↦ sameBytes (textOf s (a .content) (a .size)) (textOf t (b .content) (b .size)) ])
+
+-- ---- which key the words say
+
+abbrev pub keyKind : Key → Kind
+keyKind (intKey x) = Kind.int
+keyKind (stringKey q) = Kind.string
+
+-- words 2 and 3, and the source
+abbrev pub Says : List ℕ → Key → (content size : ℕ) → Type 0
+Says s (intKey x) content size = word (integer x) ≡ content
+Says s (stringKey q) content size = (q .text ≡ take size (drop content s)) × (content + size ≤ length s)
+
+pub record Held (s : List ℕ) (k : Key) (w : KeyWords) : Type 0 where
+  pub is : w .tag ≡ tag (keyKind k)
+  pub says : Says s k (w .content) (w .size)
+  pub fits : KeyFits k
