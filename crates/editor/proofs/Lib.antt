@@ -1,9 +1,11 @@
 pub mod Outputs
+pub mod WordLaws
 pub mod Scanned
 pub mod Spelled
 pub mod Tagged
 pub mod TokenLaws
 pub mod Respelled
 pub mod Rewritten
+pub mod Passes
 pub mod Ended
 pub mod Canonicalizing

@@ -57,7 +57,7 @@ signed-digits minus (suc n) r h = ap (λ (l : List ℕ). l ++ r) (digits-back tr
 -- ---- parts of a token's text
 
 module _ (s : List ℕ) (at : ℕ) where
-  first-byte : (b : ℕ) (r : List ℕ) → drop at s ≡ b ∷ r → getD s at 0 ≡ b
+  pub first-byte : (b : ℕ) (r : List ℕ) → drop at s ≡ b ∷ r → getD s at 0 ≡ b
   first-byte b r e = ap (λ (i : ℕ). getD s i 0) (sym (add-zero at)) ∙ sym (getD-drop at s 0 0) ∙ ap (λ (l : List ℕ). getD l 0 0) e
 
   -- a tag and its colon

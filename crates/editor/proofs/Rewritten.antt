@@ -1,7 +1,7 @@
 -- A stretch of tokens, rewritten one by one. Assumes nothing.
 use Prim.Native.Nat.{ℕ, _+_, _≤_, _<_}
 use native.Mathlib.Omega.{arith}
-use mathlib.Core.Path.{_≡_, refl, sym, ap, _∙_, subst}
+use mathlib.Core.Path.{_≡_, refl, sym, ap, _∙_}
 use mathlib.Core.List.{List, [], _∷_, _++_}
 use lib.ListN.{length, drop, length-append, length-drop}
 use lib.Seq.{sets}
@@ -15,7 +15,7 @@ use Rattle.scanner.proofs.Numbers.{kept, unfit-of}
 use Rattle.editor.specs.declared.rewrite.Change.{Change}
 use Rattle.editor.specs.Output.{Within, Puts}
 use Rattle.editor.specs.Shortest.{Bounds}
-use Rattle.editor.specs.Tokens.{Token, readToken, tokenTold, writeToken, writeTokens, AllFit}
+use Rattle.editor.specs.Tokens.{Token, readToken, tokenTold, writeToken, writeTokens, TokenFits, AllFit}
 use Rattle.editor.specs.Rewriting.{Named, respelledText, changedToken, changedText, Stretch, Rewrites}
 use Rattle.editor.proofs.TokenLaws.{token-front, token-longer, tokens-longer, token-some, token-printed}
 use Rattle.editor.proofs.Respelled.{Stands, changed-is, bounds, named}
@@ -38,33 +38,37 @@ rewriting-none s from to c w out = record { same = refl; so-far = λ g h. record
 
 -- ---- the token that stands next
 
--- the tokens left: one that stands in the source, and those behind it
-pub record Next (s : List ℕ) (at to : ℕ) (left : List Token) (x : Text) : Type 0 where
-  pub token : Token
-  pub more : List Token
-  pub are : left ≡ token ∷ more
-  pub stands : Stands s at token x
-  pub behind : drop (x .next) s ≡ writeTokens more (drop to s)
+-- what a scan finds there is that token
+pub record Standing (s : List ℕ) (at : ℕ) (t : Token) (behind : List ℕ) (x : Text) : Type 0 where
+  pub stands : Stands s at t x
+  pub rest : drop (x .next) s ≡ behind
 
-module _ (s : List ℕ) (at to : ℕ) (h : at < to) (i : to ≤ length s) where
-  pub next-of : (left : List Token) (x : Text) → AllFit left → drop at s ≡ writeTokens left (drop to s) → Found readToken (tokenTold at) s at x → Next s at to left x
-  next-of [] x fit e f = absurd (omega (arith, ap length e, length-drop at s, length-drop to s))
-  next-of (t ∷ ts) x fit e f =
-      let q : kept (f .what) (drop (x .next) s) ≡ kept t (writeTokens ts (drop to s)) = sym (f .is 0) ∙ ap (readToken 0) e ∙ token-printed 0 t (writeTokens ts (drop to s)) (fit .0) in
-      let same : f .what ≡ t = ap (λ (p : Token × List ℕ). p .0) (ok-same q) in
-      let rest : drop (x .next) s ≡ writeTokens ts (drop to s) = ap (λ (p : Token × List ℕ). p .1) (ok-same q) in
-      record {
-        token = t;
-        more = ts;
-        are = refl;
-        stands = record { written = e ∙ ap (writeToken t) (sym rest); tells = f .tells ∙ ap (λ (u : Token). tokenTold at u (x .next)) same; fits = fit .0; inside = f .inside };
-        behind = rest;
-      }
+pub standing : (s : List ℕ) (at : ℕ) (t : Token) (behind : List ℕ) (x : Text) → TokenFits t → drop at s ≡ writeToken t behind → Found readToken (tokenTold at) s at x → Standing s at t behind x
+standing s at t behind x fit e f =
+    let q : kept (f .what) (drop (x .next) s) ≡ kept t behind = sym (f .is 0) ∙ ap (readToken 0) e ∙ token-printed 0 t behind fit in
+    let same : f .what ≡ t = ap (λ (p : Token × List ℕ). p .0) (ok-same q) in
+    let rest : drop (x .next) s ≡ behind = ap (λ (p : Token × List ℕ). p .1) (ok-same q) in
+    record {
+      stands = record { written = e ∙ ap (writeToken t) (sym rest); tells = f .tells ∙ ap (λ (u : Token). tokenTold at u (x .next)) same; fits = fit; inside = f .inside };
+      rest = rest;
+    }
 
-  -- none of them is unfit
-  pub never-unfit : (c : ℕ) (left : List Token) → AllFit left → drop at s ≡ writeTokens left (drop to s) → ((l : ℕ) → readToken l (drop at s) ≡ refused c l) → ⊥
-  never-unfit c [] fit e f = omega (arith, ap length e, length-drop at s, length-drop to s)
-  never-unfit c (t ∷ ts) fit e f = not-both (sym (f 0) ∙ ap (readToken 0) e ∙ token-printed 0 t (writeTokens ts (drop to s)) (fit .0))
+-- and it is not unfit
+pub never-unfit : (s : List ℕ) (at : ℕ) (t : Token) (behind : List ℕ) (c : ℕ) → TokenFits t → drop at s ≡ writeToken t behind → ((l : ℕ) → readToken l (drop at s) ≡ refused c l) → ⊥
+never-unfit s at t behind c fit e f = not-both (sym (f 0) ∙ ap (readToken 0) e ∙ token-printed 0 t behind fit)
+
+-- of tokens that stand up to an index, one is next
+record Next (s : List ℕ) (at to : ℕ) (left : List Token) : Type 0 where
+  token : Token
+  more : List Token
+  are : left ≡ token ∷ more
+  fit : TokenFits token
+  others : AllFit more
+  text : drop at s ≡ writeToken token (writeTokens more (drop to s))
+
+next-of : (s : List ℕ) (at to : ℕ) → at < to → to ≤ length s → (left : List Token) → AllFit left → drop at s ≡ writeTokens left (drop to s) → Next s at to left
+next-of s at to h i [] fit e = absurd (omega (arith, ap length e, length-drop at s, length-drop to s))
+next-of s at to h i (t ∷ ts) fit e = record { token = t; more = ts; are = refl; fit = fit .0; others = fit .1; text = e }
 
 module _ {s : List ℕ} {from to : ℕ} {c : Change} {w₀ : ℕ} {out₀ : List ℕ} {at w : ℕ} {out : List ℕ} (r : Rewriting s from to c w₀ out₀ at w out) where
   pub rewriting-all : to ≤ at → (g : Stretch s from to) → Within (changedText c (g .tokens)) w₀ → Puts (changedText c (g .tokens)) w₀ out₀ w out
@@ -79,22 +83,25 @@ module _ {s : List ℕ} {from to : ℕ} {c : Change} {w₀ : ℕ} {out₀ : List
     abbrev d : Rewritten s c (a .stretch .tokens) to w₀ out₀ at w out
     d = r .so-far (a .stretch) (a .within)
 
+    next : Next s at to (d .left)
+    next = next-of s at to h (a .stretch .inside) (d .left) (d .fit) (d .rest)
+
     pub fit-token : (scan : Scan) (n : ℕ) → Scans readToken (tokenTold at) s at scan → scan ≡ Scan.Not n → ⊥
-    fit-token scan n g e = never-unfit s at to h (a .stretch .inside) n (d .left) (d .fit) (d .rest) (unfit-of g e)
+    fit-token scan n g e = never-unfit s at (next .token) (writeTokens (next .more) (drop to s)) n (next .fit) (next .text) (unfit-of g e)
 
     module _ (x : Text) (f : Found readToken (tokenTold at) s at x) where
-      next : Next s at to (d .left) x
-      next = next-of s at to h (a .stretch .inside) (d .left) x (d .fit) (d .rest) f
+      found-next : {left : List Token} (n : Next s at to left) → Standing s at (n .token) (writeTokens (n .more) (drop to s)) x
+      found-next n = standing s at (n .token) (writeTokens (n .more) (drop to s)) x (n .fit) (n .text) f
 
-      split : {left : List Token} (n : Next s at to left x) → changedText c left ≡ respelledText c s at x ++ changedText c (n .more)
+      split : {left : List Token} (n : Next s at to left) → changedText c left ≡ respelledText c s at x ++ changedText c (n .more)
       split n =
           ap (changedText c) (n .are) ∙ token-front (changedToken c (n .token)) [] (changedText c (n .more))
-          ∙ ap (λ (l : List ℕ). l ++ changedText c (n .more)) (sym (changed-is c s at x (n .token) (n .stands)))
+          ∙ ap (λ (l : List ℕ). l ++ changedText c (n .more)) (sym (changed-is c s at x (n .token) (found-next n .stands)))
 
       pub next-bounds : Bounds s at x × Named s at x × Within (respelledText c s at x) w
       next-bounds = (
-        bounds s at x (next .token) (next .stands),
-        named 0 s at x (next .token) (next .stands),
+        bounds s at x (next .token) (found-next next .stands),
+        named 0 s at x (next .token) (found-next next .stands),
         record { low = omega (arith, d .end, a .within .low, ap length (split next), length-append (respelledText c s at x) (changedText c (next .more))) },
       )
 
@@ -104,11 +111,11 @@ module _ {s : List ℕ} {from to : ℕ} {c : Change} {w₀ : ℕ} {out₀ : List
         same = k ∙ r .same;
         so-far = λ g i.
             let b = r .so-far g i in
-            let n = next-of s at to h (g .inside) (b .left) x (b .fit) (b .rest) f in
+            let n = next-of s at to h (g .inside) (b .left) (b .fit) (b .rest) in
             record {
               left = n .more;
-              fit = subst AllFit (n .are) (b .fit) .1;
-              rest = n .behind;
+              fit = n .others;
+              rest = found-next n .rest;
               end = omega (arith, p .end, b .end, ap length (split n), length-append (respelledText c s at x) (changedText c (n .more)));
               text = ap (λ (l : List ℕ). sets l e (changedText c (n .more))) (p .text) ∙ sets-append (respelledText c s at x) (changedText c (n .more)) out w e (p .end) ∙ ap (sets out w) (sym (split n)) ∙ b .text;
             };

@@ -1,5 +1,7 @@
 pub mod Promise
 pub mod Ends
+pub mod Words
+pub mod Passing
 pub mod Output
 pub mod Tokens
 pub mod Shortest

@@ -10,8 +10,10 @@ ghost use Rattle.editor.specs.Promise.{Writes};
 ghost use Rattle.editor.specs.Ends.{Refuses, Settles};
 
 mod output;
+mod pass;
 mod rewrite;
 mod shortest;
+mod site;
 mod token;
 
 // "bytes to write exceed the output's length or 65,536" is refused.
