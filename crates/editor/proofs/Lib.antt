@@ -7,5 +7,6 @@ pub mod TokenLaws
 pub mod Respelled
 pub mod Rewritten
 pub mod Passes
+pub mod TextLaws
 pub mod Ended
 pub mod Canonicalizing

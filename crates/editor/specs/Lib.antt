@@ -2,6 +2,7 @@ pub mod Promise
 pub mod Ends
 pub mod Words
 pub mod Passing
+pub mod PairTexts
 pub mod Output
 pub mod Tokens
 pub mod Shortest

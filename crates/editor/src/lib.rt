@@ -14,6 +14,7 @@ mod pass;
 mod rewrite;
 mod shortest;
 mod site;
+mod texts;
 mod token;
 
 // "bytes to write exceed the output's length or 65,536" is refused.

@@ -1,0 +1,176 @@
+-- Texts that are exactly one scalar or one key. Assumes nothing.
+use Prim.Native.Nat.{ℕ, _+_, _≤_, _<_}
+use native.Mathlib.Omega.{arith}
+use mathlib.Core.Path.{_≡_, refl, sym, ap, _∙_, subst}
+use mathlib.Core.Bool.{Bool, true, false}
+use mathlib.Core.List.{List, [], _∷_, _++_}
+use lib.ListN.{length, getD, take, drop, length-drop, drop-of-length-le}
+use lib.Seq.{drop-cons}
+use Rattle.format.specs.Bytes.{byte, bytes}
+use Rattle.format.specs.Kind.{Kind, scalarKinds, tag, mayBeKey}
+use Rattle.format.specs.Syntax.{null, bool, int, float, string, intKey, stringKey, Key, Quoted, Scalar, writeKey, writeScalar, writeNumber}
+use Rattle.format.specs.Fits.{KeyFits, ScalarFits}
+use Rattle.format.specs.Answer.{Answer, ok, _>>=_}
+use Rattle.format.specs.Read.{kindOf, tagOf, expect, intText, quotedText, boolText, floatText}
+use Rattle.format.proofs.Answers.{ok-same, not-both, bind-ok}
+use Rattle.format.proofs.Texts.{tag-ok, expect-ok, int-ok, quoted-ok, bool-ok, float-ok}
+use Rattle.format.proofs.Fronts.{number-length, quoted-length}
+use Rattle.format.proofs.Places.{quoted-text}
+use Rattle.scanner.specs.declared.Text.{Text}
+use Rattle.scanner.specs.declared.Scan.{Scan}
+use Rattle.scanner.specs.Scans.{scalarText, scalarBehind, scalarTold, Found, Scans}
+use Rattle.scanner.proofs.Numbers.{found-of, unfit-of}
+use Rattle.scanner.proofs.Printed.{scalarKind, behindTag, scalar-tagged, scalar-printed}
+use Rattle.keys.specs.KeyWords.{Held}
+use Rattle.keys.specs.declared.KeyWords.{KeyWords}
+use Rattle.editor.specs.PairTexts.{IsScalar, Exact, IsKey, ExactKey, ArePair}
+
+-- ---- what was read of a scalar is what was written
+
+abbrev Got : List ℕ → Scalar × List ℕ → Type 0
+Got s q = (s ≡ writeScalar (q .0) (q .1)) × ScalarFits (q .0)
+
+got : (s : List ℕ) (x : Scalar) (r : List ℕ) (q : Scalar × List ℕ) → ok (x, r) ≡ ok q → s ≡ writeScalar x r → ScalarFits x → Got s q
+got s x r q e t f = subst (Got s) (ok-same e) (t, f)
+
+scalar-got : (k : Kind) (l : ℕ) (s : List ℕ) (q : Scalar × List ℕ) → scalarText k l s ≡ ok q → Got (tag k ∷ s) q
+unfolding scalarText
+scalar-got Kind.null l s q e =
+    let a = bind-ok (expect l (bytes ";") s) _ q e in
+    got (78 ∷ s) null (a .0) q (a .2) (ap {B = List ℕ} (λ x. 78 ∷ x) (expect-ok l (bytes ";") s (a .0) (a .1))) tt
+scalar-got Kind.bool l s q e =
+    let a = bind-ok (boolText l s) _ q e in
+    got (98 ∷ s) (bool (a .0 .0)) (a .0 .1) q (a .2) (ap {B = List ℕ} (λ x. 98 ∷ x) (bool-ok l s (a .0) (a .1))) tt
+scalar-got Kind.int l s q e =
+    let a = bind-ok (intText l s) _ q e in
+    let g = int-ok l s (a .0) (a .1) in
+    got (105 ∷ s) (int (a .0 .0)) (a .0 .1) q (a .2) (g .text) (g .fits)
+scalar-got Kind.float l s q e =
+    let a = bind-ok (floatText l s) _ q e in
+    let g = float-ok l s (a .0) (a .1) in
+    got (100 ∷ s) (float (a .0 .0)) (a .0 .1) q (a .2) (ap {B = List ℕ} (λ x. 100 ∷ x) (g .text)) (g .fits)
+scalar-got Kind.string l s q e =
+    let a = bind-ok (quotedText l (bytes "\";") s) _ q e in
+    let g = quoted-ok l (byte ";") s (a .0) (a .1) in
+    got (115 ∷ s) (string (a .0 .0)) (a .0 .1) q (a .2) (ap {B = List ℕ} (λ x. 115 ∷ x) (g .text)) (g .fits)
+scalar-got Kind.array l s q e = absurd (not-both e)
+scalar-got Kind.object l s q e = absurd (not-both e)
+scalar-got Kind.objectReference l s q e = absurd (not-both e)
+scalar-got Kind.variableReference l s q e = absurd (not-both e)
+
+behind-got : (b l : ℕ) (s : List ℕ) (q : Scalar × List ℕ) → scalarBehind b l s ≡ ok q → Got (b ∷ s) q
+unfolding scalarBehind
+behind-got b l s q e =
+    let a = bind-ok (kindOf scalarKinds 3 l b) _ q e in
+    let tagged = tag-ok scalarKinds 3 l (b ∷ s) (a .0, s) (ap (λ (o : Answer Kind). o >>= λ k. ok (k, s)) (a .1)) .text in
+    subst (λ (t : List ℕ). Got t q) (sym tagged) (scalar-got (a .0) l s q (a .2))
+
+-- ---- exactly one
+
+module _ (s : List ℕ) where
+  pub none-empty : length s ≡ 0 → Exact s (Scan.Not 13)
+  none-empty e y f t = omega (arith, e, ap length (t ∙ scalar-tagged y []))
+
+  module _ (n : length s ≡ 0 → ⊥) where
+    pub some : 0 < length s
+    some = go s n
+      where
+        go : (l : List ℕ) → (length l ≡ 0 → ⊥) → 0 < length l
+        go [] n = absurd (n refl)
+        go (b ∷ l) n = omega arith
+
+    whole : s ≡ getD s 0 0 ∷ drop 1 s
+    whole = drop-cons s 0 0 some
+
+    module _ (y : Scalar) (f : ScalarFits y) (t : s ≡ writeScalar y []) where
+      printed : (l : ℕ) → scalarBehind (getD s 0 0) l (drop 1 s) ≡ ok (y, [])
+      printed l =
+          ap (λ (u : List ℕ). scalarBehind (getD u 0 0) l (drop 1 u)) (t ∙ scalar-tagged y [])
+          ∙ scalar-printed l y [] f
+
+    module _ {r : Scan} (g : Scans (scalarBehind (getD s 0 0)) (scalarTold 1) s 1 r) where
+      pub none-unfit : {c : ℕ} → r ≡ Scan.Not c → Exact s (Scan.Not c)
+      none-unfit e y f t = not-both (sym (unfit-of g e 0) ∙ printed y f t 0)
+
+      module _ {x : Text} (e : r ≡ Scan.Is x) where
+        found : Found (scalarBehind (getD s 0 0)) (scalarTold 1) s 1 x
+        found = found-of g e
+
+        pub none-longer : x .next < length s → Exact s (Scan.Not 13)
+        none-longer h y f t =
+            let rest : drop (x .next) s ≡ [] = ap (λ (p : Scalar × List ℕ). p .1) (ok-same (sym (found .is 0) ∙ printed y f t 0)) in
+            omega (arith, ap length rest, length-drop (x .next) s)
+
+        pub is-scalar : length s ≤ x .next → IsScalar s x
+        is-scalar h =
+            let g = behind-got (getD s 0 0) 0 (drop 1 s) (found .what, drop (x .next) s) (found .is 0) in
+            record {
+              scalar = found .what;
+              written = whole ∙ g .0 ∙ ap (writeScalar (found .what)) (drop-of-length-le s {i = x .next} h);
+              fits = g .1;
+              tells = found .tells;
+            }
+
+-- ---- keys
+
+abbrev scalarOfKey : Key → Scalar
+scalarOfKey (intKey x) = int x
+scalarOfKey (stringKey q) = string q
+
+key-scalar : (k : Key) (s : List ℕ) → KeyFits k → s ≡ writeKey k [] → ScalarFits (scalarOfKey k) × (s ≡ writeScalar (scalarOfKey k) [])
+key-scalar (intKey x) s f t = (f, t)
+key-scalar (stringKey q) s f t = (f, t)
+
+module _ (s : List ℕ) where
+  pub no-key-empty : length s ≡ 0 → ExactKey s (Scan.Not 13)
+  no-key-empty e k f t = let q = key-scalar k s f t in none-empty s e (scalarOfKey k) (q .0) (q .1)
+
+  key-tag : (k : Key) → s ≡ writeKey k [] → mayBeKey (getD s 0 0) ≡ true
+  key-tag (intKey x) t = ap (λ (u : List ℕ). mayBeKey (getD u 0 0)) t
+  key-tag (stringKey q) t = ap (λ (u : List ℕ). mayBeKey (getD u 0 0)) t
+
+  differ : true ≡ false → ⊥
+  differ e = let z : _≡_ {A = ℕ} 0 1 = cc in omega arith
+
+  pub no-key-tag : mayBeKey (getD s 0 0) ≡ false → ExactKey s (Scan.Not 13)
+  no-key-tag e k f t = differ (sym (key-tag k t) ∙ e)
+
+  -- by what the scan for a scalar found
+  is-key : (x : Text) (y : Scalar) → mayBeKey (getD s 0 0) ≡ true → s ≡ writeScalar y [] → ScalarFits y → x ≡ scalarTold 1 y (x .next) → IsKey s (record { tag = getD s 0 0; content = x .content; size = x .size })
+  is-key x null m t f e = absurd (differ (sym m ∙ ap (λ (u : List ℕ). mayBeKey (getD u 0 0)) t))
+  is-key x (bool b) m t f e = absurd (differ (sym m ∙ ap (λ (u : List ℕ). mayBeKey (getD u 0 0)) t))
+  is-key x (float g) m t f e = absurd (differ (sym m ∙ ap (λ (u : List ℕ). mayBeKey (getD u 0 0)) t))
+  is-key x (int y) m t f e = record {
+    key = intKey y;
+    written = t;
+    fits = f;
+    held = record { is = ap (λ (u : List ℕ). getD u 0 0) t; says = sym (ap (λ (u : Text). u .content) e); fits = f };
+  }
+  is-key x (string q) m t f e =
+      let c : x .content ≡ 0 + 4 + length (writeNumber (q .spelling) (length (q .text)) []) = ap (λ (u : Text). u .content) e ∙ omega arith in
+      let z : x .size ≡ length (q .text) = ap (λ (u : Text). u .size) e in
+      let stands = quoted-text s 0 115 q (59 ∷ []) t in
+      record {
+        key = stringKey q;
+        written = t;
+        fits = f;
+        held = record {
+          is = ap (λ (u : List ℕ). getD u 0 0) t;
+          says = (sym (ap (λ (n : ℕ). take n (drop (x .content) s)) z ∙ ap (λ (n : ℕ). take (length (q .text)) (drop n s)) c ∙ stands), omega (arith, c, z, ap length t, quoted-length q (59 ∷ []), number-length (q .spelling) (length (q .text)) []));
+          fits = f;
+        };
+      }
+
+  pub exact-key : (r : Scan) → mayBeKey (getD s 0 0) ≡ true → Exact s r → ExactKey s r
+  exact-key (Scan.Is x) m g = is-key x (g .scalar) m (g .written) (g .fits) (g .tells)
+  exact-key (Scan.Not c) m g = λ k f t. let q = key-scalar k s f t in g (scalarOfKey k) (q .0) (q .1)
+
+pub key-some : (s : List ℕ) {w : KeyWords} → IsKey s w → 0 < length s
+key-some s g = go (g .key) (g .written)
+  where
+    go : (k : Key) → s ≡ writeKey k [] → 0 < length s
+    go (intKey x) t = omega (arith, ap length t)
+    go (stringKey q) t = omega (arith, ap length t)
+
+pub are-pair : (key value : List ℕ) (w : KeyWords) → IsKey key w → (x : Text) → IsScalar value x → ArePair key value w
+are-pair key value w k x y = record { keyed = k; scalar = y .scalar; written = y .written; fits = y .fits }
