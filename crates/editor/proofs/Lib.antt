@@ -8,5 +8,6 @@ pub mod Respelled
 pub mod Rewritten
 pub mod Passes
 pub mod TextLaws
+pub mod PairParts
 pub mod Ended
 pub mod Canonicalizing

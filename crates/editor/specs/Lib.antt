@@ -3,6 +3,7 @@ pub mod Ends
 pub mod Words
 pub mod Passing
 pub mod PairTexts
+pub mod Checks
 pub mod Output
 pub mod Tokens
 pub mod Shortest

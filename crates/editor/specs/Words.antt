@@ -1,7 +1,7 @@
 -- What inserting takes from the table of the plan that was read, by its words.
 use mathlib.Core.Path.{_≡_}
 use mathlib.Core.List.{List}
-use mathlib.Core.Bool.{not}
+use mathlib.Core.Bool.{Bool, false, not, _||_}
 use Prim.Native.Nat.{ℕ, zero, suc, _+_, _-_, _*_, _≤_, _<_}
 use lib.Dec.{eqb}
 use lib.ListN.{length}
@@ -9,6 +9,8 @@ use Rattle.format.specs.Kind.{Kind, tag}
 use Rattle.format.specs.Tree.{one}
 use Rattle.format.specs.Table.{width}
 use Rattle.reader.specs.Nodes.{wordAt}
+use Rattle.keys.specs.KeyWords.{sameWords}
+use Rattle.keys.specs.declared.KeyWords.{KeyWords}
 use Rattle.editor.specs.declared.site.Site.{Site}
 use Rattle.editor.specs.declared.site.Gap.{Gap}
 
@@ -58,3 +60,19 @@ pub record BeforeIs (t : List ℕ) (node count ordinal place gap new : ℕ) : Ty
 abbrev pub GapIs : List ℕ → (node count ordinal place : ℕ) → Gap → Type 0
 GapIs t i n o p (Gap.Before gap new) = BeforeIs t i n o p gap new
 GapIs t i n o p Gap.Beyond = n < p
+
+-- ---- 9
+
+-- words 0, 2 and 3 of a node
+abbrev pub keyWordsAt : List ℕ → (node : ℕ) → KeyWords
+keyWordsAt t i = record { tag = wordAt t i 0; content = wordAt t i 2; size = wordAt t i 3 }
+
+-- each of so many pairs from node i on has its words
+abbrev pub Walks : List ℕ → (i count : ℕ) → Type 0
+Walks t i zero = Unit {0}
+Walks t i (suc n) = (i * width + (width + 5) < length t) × Walks t (wordAt t i (width + 5)) n
+
+-- whether a key, whose words and text are known, is equal to a key of so many pairs
+abbrev pub keyAmong : (source key : List ℕ) → KeyWords → (table : List ℕ) → (i count : ℕ) → Bool
+keyAmong s k w t i zero = false
+keyAmong s k w t i (suc n) = sameWords k w s (keyWordsAt t i) || keyAmong s k w t (wordAt t i (width + 5)) n

@@ -9,6 +9,7 @@ ghost use Rattle.format.specs.Writing.{fitsIn, canonicalBytes};
 ghost use Rattle.editor.specs.Promise.{Writes};
 ghost use Rattle.editor.specs.Ends.{Refuses, Settles};
 
+mod check;
 mod output;
 mod pass;
 mod rewrite;

@@ -31,7 +31,7 @@ pub fn text_of(source: &[u8], offset: u64, size: u64) -> &[u8]
 }
 
 // Whether two keys are equal: two integers with one pattern, or two strings of the same bytes.
-pub fn same_key<'a>(source: &'a [u8], a: KeyWords, other: &'a [u8], b: KeyWords) -> bool
+pub fn same_key(source: &[u8], a: KeyWords, other: &[u8], b: KeyWords) -> bool
     ensures { λ r. ⌜ r ≡ sameWords (now (source .entry)) a (now (other .entry)) b ⌝ }
 {
     if a.tag != b.tag {

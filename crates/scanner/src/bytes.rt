@@ -27,7 +27,7 @@ pub fn bytes_are(source: &[u8], at: usize, first: u8, second: u8) -> bool
 }
 
 // Whether two texts are the same bytes in the same order.
-pub fn same_bytes<'a>(a: &'a [u8], b: &'a [u8]) -> bool
+pub fn same_bytes(a: &[u8], b: &[u8]) -> bool
     ensures { λ r. ⌜ r ≡ sameBytes (now (a .entry)) (now (b .entry)) ⌝ }
 {
     if a.len() != b.len() {
