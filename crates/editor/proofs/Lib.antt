@@ -9,5 +9,10 @@ pub mod Rewritten
 pub mod Passes
 pub mod TextLaws
 pub mod PairParts
+pub mod Sites
+pub mod SiteWords
+pub mod Placings
+pub mod Gaps
+pub mod Placements
 pub mod Ended
 pub mod Canonicalizing

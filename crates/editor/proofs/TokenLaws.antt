@@ -20,11 +20,11 @@ use Rattle.editor.specs.Tokens.{Token, scalar, reference, opening, closi
 
 -- ---- a plan is its tokens
 
-tokens-append : (xs ys : List Token) (r : List ℕ) → writeTokens (xs ++ ys) r ≡ writeTokens xs (writeTokens ys r)
+pub tokens-append : (xs ys : List Token) (r : List ℕ) → writeTokens (xs ++ ys) r ≡ writeTokens xs (writeTokens ys r)
 tokens-append [] ys r = refl
 tokens-append (x ∷ xs) ys r = ap (writeToken x) (tokens-append xs ys r)
 
-key-written : (k : Key) (r : List ℕ) → writeToken (scalar (keyScalar k)) r ≡ writeKey k r
+pub key-written : (k : Key) (r : List ℕ) → writeToken (scalar (keyScalar k)) r ≡ writeKey k r
 key-written (intKey x) r = refl
 key-written (stringKey q) r = refl
 
@@ -65,7 +65,7 @@ mutual
 
 -- ---- the tokens of a valid plan fit
 
-all-append : (xs ys : List Token) → AllFit xs → AllFit ys → AllFit (xs ++ ys)
+pub all-append : (xs ys : List Token) → AllFit xs → AllFit ys → AllFit (xs ++ ys)
 all-append [] ys f g = g
 all-append (x ∷ xs) ys f g = (f .0, all-append xs ys (f .1) g)
 
@@ -114,6 +114,10 @@ token-longer t r = omega (arith, ap length (token-front t [] r), length-append (
 pub tokens-longer : (ts : List Token) (r : List ℕ) → length r ≤ length (writeTokens ts r)
 tokens-longer [] r = omega arith
 tokens-longer (t ∷ ts) r = omega (arith, tokens-longer ts r, token-longer t (writeTokens ts r))
+
+pub tokens-front : (ts : List Token) (r : List ℕ) → writeTokens ts r ≡ writeTokens ts [] ++ r
+tokens-front [] r = refl
+tokens-front (t ∷ ts) r = ap (writeToken t) (tokens-front ts r) ∙ token-front t (writeTokens ts []) r
 
 -- a scalar's tag is no other token's
 scalar-token : (x : Scalar) (l : ℕ) (s r : List ℕ) → scalarBehind (tag (scalarKind x)) l s ≡ ok (x, r) → tokenBehind (tag (scalarKind x)) l s ≡ ok (scalar x, r)

@@ -4,6 +4,7 @@ pub mod Words
 pub mod Passing
 pub mod PairTexts
 pub mod Checks
+pub mod Inserting
 pub mod Output
 pub mod Tokens
 pub mod Shortest

@@ -10,8 +10,10 @@ ghost use Rattle.editor.specs.Promise.{Writes};
 ghost use Rattle.editor.specs.Ends.{Refuses, Settles};
 
 mod check;
+
 mod output;
 mod pass;
+mod placing;
 mod rewrite;
 mod shortest;
 mod site;

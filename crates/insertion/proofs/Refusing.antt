@@ -20,7 +20,7 @@ use Rattle.format.specs.Read.{read}
 use Rattle.format.specs.Table.{Node, tableOf}
 use Rattle.format.specs.Shows.{nodeAt}
 use Rattle.format.specs.Edit.{keys, insert}
-use Rattle.format.specs.Writing.{Site, arrayAt, keyOf, scalarOf, fitsIn, insertBytes}
+use Rattle.format.specs.Writing.{Site, arrayAt, keyOf, scalarOf, fitsIn, withRoom, insertBytes}
 use Rattle.format.proofs.Answers.{not-both}
 use Rattle.format.proofs.Keys.{equal-keys}
 use Rattle.format.proofs.Rows.{at-first}
@@ -38,10 +38,10 @@ or-right true b h = tt
 or-right false b h = h
 
 -- some key of these means what k means
-abbrev Equal : Key → List Key → Type 0
+abbrev pub Equal : Key → List Key → Type 0
 Equal k js = (j : Key) × List·Memᴰ j js × (keyMeaning k ≡ keyMeaning j)
 
-equal-key : (k : Key) (js : List Key) → T (hasKey k js) → Equal k js
+pub equal-key : (k : Key) (js : List Key) → T (hasKey k js) → Equal k js
 equal-key k [] h = absurd h
 equal-key k (i ∷ js) h = go (test (sameKey k i)) (equal-key k js)
   where
@@ -49,7 +49,7 @@ equal-key k (i ∷ js) h = go (test (sameKey k i)) (equal-key k js)
     go (passed t) f = (i, List·Memᴰ·head refl, equal-keys k i .0 (T-of t))
     go (failed t) f = let a = f (rw (t, _||_) at h) in (a .0, List·Memᴰ·tail (a .1), a .2)
 
-has-equal : (k j : Key) (js : List Key) → List·Memᴰ j js → keyMeaning k ≡ keyMeaning j → T (hasKey k js)
+pub has-equal : (k j : Key) (js : List Key) → List·Memᴰ j js → keyMeaning k ≡ keyMeaning j → T (hasKey k js)
 has-equal k j [] m e = absurd (List·Memᴰ·not-nil m)
 has-equal k j (i ∷ js) m e = go (List·Memᴰ·cases-cons m) (λ n. has-equal k j js n e)
   where
@@ -170,15 +170,14 @@ module _ (capacity : ℕ) (source : List ℕ) (node place : ℕ) (key value : Li
     newly {s = s} {k = k} a =
         T-true (not (hasKey k (keys (s .pairs)))) (not-T (hasKey k (keys (s .pairs))) (λ t. let q = equal-key k (keys (s .pairs)) t in a .new (q .0) (q .1) (q .2)))
 
-    pub accepted : (old : Value) (s : Site) (k : Key) (x : Scalar) → WithNodes old s k x
-        → length (print (insert (s .path) place k x old)) ≤ room → length (print (insert (s .path) place k x old)) ≤ sourceLimit
-        → insertBytes capacity room source node place key value ≡ ok (print (insert (s .path) place k x old))
+    -- all steps passed but the last
+    pub steps-pass : (old : Value) (s : Site) (k : Key) (x : Scalar) → WithNodes old s k x
+        → insertBytes capacity room source node place key value ≡ withRoom room (print (insert (s .path) place k x old))
     unfolding insertBytes
-    accepted old s k x w r l =
+    steps-pass old s k x w =
         let level = w .level in
         let pair = level .fresh .pair in
         let array = pair .spot .array in
-        let n : ℕ = length (print (insert (s .path) place k x old)) in
         rw (
           reads array,
           array .at,
@@ -188,9 +187,14 @@ module _ (capacity : ℕ) (source : List ℕ) (node place : ℕ) (key value : Li
           newly (level .fresh),
           lt-ltb (suc (length (s .path))) depthLimit (level .shallow),
           le-leb (nodes old + 2) capacity (w .small),
-          le-leb n room r,
-          le-leb n sourceLimit l,
         )
+
+    pub accepted : (old : Value) (s : Site) (k : Key) (x : Scalar) → WithNodes old s k x
+        → length (print (insert (s .path) place k x old)) ≤ room → length (print (insert (s .path) place k x old)) ≤ sourceLimit
+        → insertBytes capacity room source node place key value ≡ ok (print (insert (s .path) place k x old))
+    accepted old s k x w r l =
+        let n : ℕ = length (print (insert (s .path) place k x old)) in
+        steps-pass old s k x w ∙ rw (le-leb n room r, le-leb n sourceLimit l)
 
     is-refused : {A : Type 0} (a : Answer A) → ((x : A) → a ≡ ok x → ⊥) → (m : ℕ) → ((n p : ℕ) → a ≡ refused n p → (n ≡ m) × (p ≡ 0)) → a ≡ refused m 0
     is-refused (ok x) f m g = absurd (f x refl)
@@ -243,17 +247,4 @@ module _ (capacity : ℕ) (source : List ℕ) (node place : ℕ) (key value : Li
         let pair = a .fresh .pair in
         let spot = pair .spot in
         rw (reads (spot .array), spot .array .at, placed spot, keyed pair, valued pair, newly (a .fresh), lt-ltb (suc (length (s .path))) depthLimit (a .shallow), lt-leb (nodes old + 2) capacity h)
-    row-refused n p (noBytes old s k x a h) =
-        let pair = a .level .fresh .pair in
-        let spot = pair .spot in
-        rw (
-          reads (spot .array),
-          spot .array .at,
-          placed spot,
-          keyed pair,
-          valued pair,
-          newly (a .level .fresh),
-          lt-ltb (suc (length (s .path))) depthLimit (a .level .shallow),
-          le-leb (nodes old + 2) capacity (a .small),
-          refuses-bytes (length (print (insert (s .path) place k x old))) h,
-        )
+    row-refused n p (noBytes old s k x a h) = steps-pass old s k x a ∙ rw (refuses-bytes (length (print (insert (s .path) place k x old))) h)
