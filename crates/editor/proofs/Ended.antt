@@ -68,6 +68,9 @@ module _ {bytes : List ℕ} {n : ℕ} {part : List ℕ} (measured : Puts bytes 0
 
 -- ---- what is answered and left, the bytes to write being known
 
+pub refuses-as : {c d : ℕ} {t t′ : List ℕ} {r : Writing} → c ≡ d → Refuses c t t′ r → Refuses d t t′ r
+refuses-as {t = t} {t′} {r} e f = subst (λ (n : ℕ). Refuses n t t′ r) e f
+
 module _ {text : Answer (List ℕ)} (source before out : List ℕ) where
   -- the definition's own refusal, with nothing written
   pub writes-refused : {after : List ℕ} {code at : ℕ} → text ≡ refused code at → after ≡ cleared before → Writes text source before after out out (Writing.Refused code at)

@@ -14,5 +14,8 @@ pub mod SiteWords
 pub mod Placings
 pub mod Gaps
 pub mod Placements
+pub mod InsertedTexts
+pub mod Measures
+pub mod Finished
 pub mod Ended
 pub mod Canonicalizing

@@ -134,15 +134,7 @@ pub(crate) fn write_inserted(
     let gap = spot.gap;
     let raise = Change::Raise(spot.ordinal);
     let before = rewrite(source, 0, at, raise, out, 0);
-    let counted = numbered(
-        source,
-        at,
-        spot.count + 1,
-        inside - 2,
-        inside,
-        out,
-        before,
-    );
+    let counted = numbered(source, at, spot.count + 1, inside - 2, inside, out, before);
     let upto = rewrite(source, inside, gap, raise, out, counted);
     let keyed = copy(key, 0, key.len(), out, upto);
     let valued = copy(value, 0, value.len(), out, keyed);
