@@ -15,7 +15,8 @@ use Rattle.format.specs.Kind.{Kind, tag}
 use Rattle.decimal.proofs.Decide.{Order, below, above, order}
 use Rattle.scanner.specs.declared.Text.{Text}
 use Rattle.scanner.specs.declared.Scan.{Scan}
-use Rattle.scanner.specs.Scans.{byteAt, Found, Scans}
+use Rattle.bytes_at.specs.ByteAt.{byteAt}
+use Rattle.scanner.specs.Scans.{Found, Scans}
 use Rattle.scanner.proofs.Numbers.{unfit-of}
 use Rattle.editor.specs.Tokens.{Token, scalar, reference, opening, closing, readToken, tokenTold, writeToken, writeTokens, TokenFits, AllFit, opensOf, closesOf, opens, closes, nodesOf, opened, closed}
 use Rattle.editor.specs.Passing.{goesOn, Ahead, Reached}

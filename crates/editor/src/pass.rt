@@ -1,11 +1,11 @@
 // Nodes passed in the bytes of a plan that was read: no tag's position stands in the table.
 use crate::token::token;
+use bytes_at::byte_is;
 use format::kind::Kind;
 use scanner::Scan;
-use scanner::bytes::byte_is;
 ghost use mathlib.Core.Path.{_≡_};
 ghost use Prim.Native.Nat.{_≤_};
-ghost use Rattle.scanner.specs.Scans.{byteAt};
+ghost use Rattle.bytes_at.specs.ByteAt.{byteAt};
 ghost use Rattle.editor.specs.Tokens.{opensOf, closesOf};
 ghost use Rattle.editor.specs.Passing.{goesOn, Ahead, Reached};
 

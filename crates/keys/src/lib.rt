@@ -1,6 +1,6 @@
 // Keys by the words of their nodes: when two are equal, each with the source that it stands in.
+use bytes_at::same_bytes;
 use format::kind::Kind;
-use scanner::bytes::same_bytes;
 ghost use mathlib.Core.Path.{_≡_};
 ghost use Rattle.keys.specs.KeyWords.{textOf, sameWords};
 

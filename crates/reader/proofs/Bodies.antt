@@ -17,10 +17,11 @@ use Rattle.format.specs.Read.{expect, number, intText, quotedText, boolText, fl
 use Rattle.format.specs.Table.{Node, single, keyNode, scalarNode, branchNode}
 use Rattle.format.proofs.Answers.{ok-same, not-both, bind-ok, bind-map}
 use Rattle.scanner.specs.Scans.{countText, namedText, headText, containerTold, scalarText, scalarTold}
-use Rattle.scanner.proofs.BytesAt.{plus-two}
+use Rattle.bytes_at.proofs.BytesAt.{plus-two}
 use Rattle.scanner.proofs.Printed.{scalarKind}
 use Rattle.scanner.proofs.Numbers.{kept}
-use Rattle.reader.specs.Texts.{kindFor, isArrayTag, scalarTag, containerTag, referenceTag, keyKind, keyTold}
+use Rattle.keys.specs.KeyWords.{keyKind}
+use Rattle.reader.specs.Texts.{kindFor, isArrayTag, scalarTag, containerTag, referenceTag, keyTold}
 use Rattle.reader.specs.Nodes.{nodeOf}
 
 -- ---- answers

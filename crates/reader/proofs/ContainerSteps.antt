@@ -18,8 +18,9 @@ use Rattle.format.specs.Table.{Node, words, width, flat, branchNode, pairsOffse
 use Rattle.format.proofs.Inversion.{pairs-count}
 use Rattle.scanner.specs.declared.Text.{Text}
 use Rattle.scanner.specs.declared.Scan.{Scan}
-use Rattle.scanner.specs.Scans.{byteAt, Found, Scans, headText, containerTold, headTold}
-use Rattle.scanner.proofs.BytesAt.{byte-there, expect-yes, expect-no}
+use Rattle.bytes_at.specs.ByteAt.{byteAt}
+use Rattle.scanner.specs.Scans.{Found, Scans, headText, containerTold, headTold}
+use Rattle.bytes_at.proofs.BytesAt.{byte-there, expect-yes, expect-no}
 use Rattle.scanner.proofs.Numbers.{unfit-of}
 use Rattle.reader.specs.declared.cursor.Cursor.{Cursor}
 use Rattle.reader.specs.declared.cursor.Step.{Step}

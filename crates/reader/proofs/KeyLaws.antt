@@ -4,67 +4,19 @@ use native.Mathlib.Omega.{arith}
 use mathlib.Core.Path.{_≡_, refl, sym, ap, _∙_, subst}
 use mathlib.Core.Bool.{Bool, true, false, _||_}
 use mathlib.Core.List.{List, [], _∷_, _++_}
-use lib.Dec.{eqb}
-use lib.ListN.{length, take, drop, length-drop}
-use lib.Seq.{length-take-le}
 use borrow.Author.Tests.{ne-eqb}
-use Rattle.format.specs.Bytes.{sameBytes}
 use Rattle.format.specs.Kind.{Kind, tag}
 use Rattle.format.specs.Syntax.{Quoted, intKey, stringKey, Key}
 use Rattle.format.specs.Keys.{integer, sameKey, hasKey}
 use Rattle.format.specs.Fits.{KeyFits}
 use Rattle.format.specs.Table.{width, word}
 use Rattle.format.proofs.Words.{same-word}
-use Rattle.scanner.proofs.BytesAt.{differ-length}
-use Rattle.reader.specs.declared.seen.KeyWords.{KeyWords}
+use Rattle.keys.specs.declared.KeyWords.{KeyWords}
+use Rattle.keys.specs.KeyWords.{sameWords, Held}
+use Rattle.keys.proofs.SameWords.{words-same}
 use Rattle.reader.specs.declared.seen.Highest.{Highest}
 use Rattle.reader.specs.Nodes.{wordAt}
-use Rattle.reader.specs.KeysSeen.{rank, Held, HeldKey, keyWords, Chain, none, pair, Walk, Reaches, KeyUnder, Under, Raised}
-
--- ---- two keys
-
-module _ (s : List ℕ) where
-  int-tag : {q : Quoted} {w : KeyWords} → Held s (stringKey q) w → w .tag ≡ tag Kind.int → ⊥
-  int-tag h e = let q = h .is in omega arith
-
-  key-range : (k : Key) (w : KeyWords) → Held s k w → (w .tag ≡ tag Kind.int → ⊥) → w .content + w .size ≤ length s
-  key-range (intKey x) w h e = absurd (e (h .is))
-  key-range (stringKey q) w h e = h .says .1
-
-  pub range-of : (w : KeyWords) → HeldKey s w → (w .tag ≡ tag Kind.int → ⊥) → w .content + w .size ≤ length s
-  range-of w h e = key-range (h .key) w (h .held) e
-
-  module _ (a b : KeyWords) where
-    abbrev Answers : Bool → Type 0
-    Answers r = (j k : Key) → Held s j a → Held s k b → r ≡ sameKey k j
-
-    pub tags-differ : (a .tag ≡ b .tag → ⊥) → Answers false
-    tags-differ n (intKey x) (intKey y) h g = absurd (n (h .is ∙ sym (g .is)))
-    tags-differ n (intKey x) (stringKey q) h g = refl
-    tags-differ n (stringKey q) (intKey y) h g = refl
-    tags-differ n (stringKey q) (stringKey r) h g = absurd (n (h .is ∙ sym (g .is)))
-
-    module _ (e : a .tag ≡ b .tag) where
-      pub ints-same : a .tag ≡ tag Kind.int → Answers (eqb (b .content) (a .content))
-      ints-same f (intKey x) (intKey y) h g = sym (same-word y x (g .fits) (h .fits) ∙ rw (g .says, h .says))
-      ints-same f (intKey x) (stringKey q) h g = absurd (int-tag g (sym e ∙ f))
-      ints-same f (stringKey q) k h g = absurd (int-tag h f)
-
-      module _ (f : a .tag ≡ tag Kind.int → ⊥) where
-        text-long : (o n : ℕ) → o + n ≤ length s → length (take n (drop o s)) ≡ n
-        text-long o n h = length-take-le n (drop o s) (omega (arith, length-drop o s))
-
-        pub sizes-differ : (b .size ≡ a .size → ⊥) → Answers false
-        sizes-differ n (intKey x) k h g = absurd (f (h .is))
-        sizes-differ n (stringKey q) (intKey y) h g = absurd (f (e ∙ g .is))
-        sizes-differ n (stringKey q) (stringKey r) h g =
-            differ-length (r .text) (q .text)
-            (λ z. n (sym (ap length (g .says .0) ∙ text-long (b .content) (b .size) (g .says .1)) ∙ z ∙ ap length (h .says .0) ∙ text-long (a .content) (a .size) (h .says .1)))
-
-        pub strings-same : b .size ≡ a .size → (m n : ℕ) → m ≡ a .size → n ≡ a .size → Answers (sameBytes (take n (drop (b .content) s)) (take m (drop (a .content) s)))
-        strings-same z m n p q (intKey x) k h g = absurd (f (h .is))
-        strings-same z m n p q (stringKey t) (intKey y) h g = absurd (f (e ∙ g .is))
-        strings-same z m n p q (stringKey t) (stringKey r) h g = rw (h .says .0, g .says .0, z, p, q)
+use Rattle.reader.specs.KeysSeen.{rank, keyWords, Chain, none, pair, Walk, Reaches, KeyUnder, Under, Raised}
 
 -- ---- pairs in the table
 
@@ -104,21 +56,21 @@ module _ {s t : List ℕ} {first n : ℕ} {w : KeyWords} where
   left-none a = record { walk = a; left = λ k ks h c. record { keys = ks; chain = c; same = refl } }
 
   module _ {i : ℕ} (l : Left s t first n w i) (lt : i < n) where
-    pub held-here : HeldKey s (keyWords t i)
-    held-here = let p = stepped (l .walk .chain) lt in record { key = p .key; held = p .held }
-
     pub left-on : i + 1 < wordAt t i (width + 5)
     left-on = stepped (l .walk .chain) lt .on
 
     pub left-in : wordAt t i (width + 5) ≤ n
     left-in = chain-le (stepped (l .walk .chain) lt .chain)
 
-    module _ (r : Bool) (e : (j k : Key) → Held s j (keyWords t i) → Held s k w → r ≡ sameKey k j) where
+    module _ (r : Bool) (e : r ≡ sameWords s w s (keyWords t i)) where
+      decided : (j k : Key) → Held s j (keyWords t i) → Held s k w → r ≡ sameKey k j
+      decided j k h g = e ∙ words-same s w s (keyWords t i) k j g h
+
       pub left-found : r ≡ true → (k : Key) (ks : List Key) → Held s k w → Chain s t first n ks → true ≡ hasKey k ks
       left-found q k ks h c =
           let x = l .left k ks h c in
           let p = stepped (x .chain) lt in
-          sym (x .same ∙ ap (hasKey k) (p .is) ∙ ap (λ (b : Bool). b || hasKey k (p .rest)) (sym (e (p .key) k (p .held) h) ∙ q))
+          sym (x .same ∙ ap (hasKey k) (p .is) ∙ ap (λ (b : Bool). b || hasKey k (p .rest)) (sym (decided (p .key) k (p .held) h) ∙ q))
 
       pub left-more : r ≡ false → Left s t first n w (wordAt t i (width + 5))
       left-more q =
@@ -130,7 +82,7 @@ module _ {s t : List ℕ} {first n : ℕ} {w : KeyWords} where
                 record {
                   keys = p .rest;
                   chain = p .chain;
-                  same = x .same ∙ ap (hasKey k) (p .is) ∙ ap (λ (b : Bool). b || hasKey k (p .rest)) (sym (e (p .key) k (p .held) h) ∙ q);
+                  same = x .same ∙ ap (hasKey k) (p .is) ∙ ap (λ (b : Bool). b || hasKey k (p .rest)) (sym (decided (p .key) k (p .held) h) ∙ q);
                 };
           }
 
@@ -154,8 +106,11 @@ not-reached : (h : Highest) (r : ℕ) → Above h r → Reaches h r → ⊥
 not-reached Highest.Nothing r a b = b
 not-reached (Highest.At top) r a b = omega arith
 
+int-tag : {s : List ℕ} {q : Quoted} {w : KeyWords} → Held s (stringKey q) w → w .tag ≡ tag Kind.int → ⊥
+int-tag h e = let q = h .is in omega arith
+
 new-key : (s : List ℕ) (k j : Key) (w : KeyWords) (high : Highest) → Held s k w → w .tag ≡ tag Kind.int → Above high (rank (w .content)) → KeyFits j → KeyUnder high j → sameKey k j ≡ false
-new-key s (stringKey q) j w high h e a f u = absurd (int-tag s h e)
+new-key s (stringKey q) j w high h e a f u = absurd (int-tag h e)
 new-key s (intKey x) (stringKey q) w high h e a f u = refl
 new-key s (intKey x) (intKey y) w high h e a f u =
     same-word x y (h .fits) f

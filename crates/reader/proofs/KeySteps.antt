@@ -27,10 +27,11 @@ use Rattle.scanner.specs.Scans.{Found, Scans}
 use Rattle.scanner.proofs.Numbers.{unfit-of}
 use Rattle.reader.specs.declared.cursor.Cursor.{Cursor}
 use Rattle.reader.specs.declared.cursor.Step.{Step}
-use Rattle.reader.specs.declared.seen.KeyWords.{KeyWords}
-use Rattle.reader.specs.Texts.{kindFor, isArrayTag, keyKind, keyTold}
+use Rattle.keys.specs.declared.KeyWords.{KeyWords}
+use Rattle.keys.specs.KeyWords.{keyKind, Says, Held}
+use Rattle.reader.specs.Texts.{kindFor, isArrayTag, keyTold}
 use Rattle.reader.specs.Nodes.{nodeOf, wordAt, Placed}
-use Rattle.reader.specs.KeysSeen.{Says, Held, keyWords}
+use Rattle.reader.specs.KeysSeen.{keyWords}
 use Rattle.reader.specs.Steps.{Fit, GoodKey, MeetsKey, keyAt, refusalOf}
 use Rattle.reader.proofs.Tagged.{position-is, tag-end, tag-other, tag-is, key-kind-is, key-any, one-of}
 use Rattle.reader.proofs.Bodies.{key-told, key-of-int, key-of-string}
@@ -76,7 +77,7 @@ module _ (s : List ℕ) (at b : ℕ) (may : mayBeKey b ≡ true) (here : at < le
         omega (arith, o, n, ap length w, length-drop at s, quoted-length q (byte ";" ∷ drop (x .next) s), number-length (q .spelling) (length (q .text)) []),
       )
 
-  pub held-of : Held s (f .what) (record { tag = b; content = x .content; size = x .size })
+  held-of : Held s (f .what) (record { tag = b; content = x .content; size = x .size })
   held-of =
       record {
         is = sym (ap tag kind-is ∙ tag-back);

@@ -22,10 +22,11 @@ use Rattle.format.proofs.Rows.{tableIn-length}
 use Rattle.reader.specs.declared.cursor.Cursor.{Cursor}
 use Rattle.reader.specs.declared.cursor.Step.{Step}
 use Rattle.reader.specs.declared.seen.Highest.{Highest}
-use Rattle.reader.specs.declared.seen.KeyWords.{KeyWords}
+use Rattle.keys.specs.declared.KeyWords.{KeyWords}
+use Rattle.keys.specs.KeyWords.{Held}
 use Rattle.reader.specs.Texts.{isArrayTag}
 use Rattle.reader.specs.Nodes.{wordAt}
-use Rattle.reader.specs.KeysSeen.{Held, keyWords, Chain, none, pair, Walk, Raised}
+use Rattle.reader.specs.KeysSeen.{keyWords, Chain, none, pair, Walk, Raised}
 use Rattle.reader.specs.Steps.{Points, Takes, TakesIn, Fit, Kept, WroteIn, GoodValue, GoodPairs, GoodKey, MeetsPairs, Earlier, innerAt, valueAt, pairsAt, keyAt}
 use Rattle.reader.proofs.KeyLaws.{chain-le, under-raised}
 use Rattle.reader.proofs.Snoc.{snoc, onto, onto-none, onto-done, onto-refused, onto-snoc, nodes-snoc, ordinals-snoc, key-adds, write-adds, length-snoc, ordinals-le, flat-append, table-snoc, takes-snoc}

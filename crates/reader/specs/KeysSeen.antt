@@ -2,35 +2,18 @@
 use mathlib.Core.Path.{_≡_}
 use mathlib.Core.List.{List, [], _∷_}
 use Prim.Native.Nat.{ℕ, _+_, _^_, _%_, _≤_, _<_}
-use lib.ListN.{length, take, drop}
 use Rattle.format.specs.Kind.{Kind, tag}
 use Rattle.format.specs.Syntax.{intKey, stringKey, Key}
 use Rattle.format.specs.Keys.{integer}
-use Rattle.format.specs.Fits.{KeyFits}
 use Rattle.format.specs.Table.{width, word}
-use Rattle.reader.specs.Texts.{keyKind}
+use Rattle.keys.specs.declared.KeyWords.{KeyWords}
+use Rattle.keys.specs.KeyWords.{Held}
 use Rattle.reader.specs.Nodes.{wordAt}
-use Rattle.reader.specs.declared.seen.KeyWords.{KeyWords}
 use Rattle.reader.specs.declared.seen.Highest.{Highest}
 
 -- the place of an integer's pattern in the order of the integers
 abbrev pub rank : ℕ → ℕ
 rank w = (w + 9223372036854775808) % 2 ^ 64
-
--- words 2 and 3, and the source, say the key
-abbrev pub Says : List ℕ → Key → (content size : ℕ) → Type 0
-Says s (intKey x) content size = word (integer x) ≡ content
-Says s (stringKey q) content size = (q .text ≡ take size (drop content s)) × (content + size ≤ length s)
-
--- a key's words say the key
-pub record Held (s : List ℕ) (k : Key) (w : KeyWords) : Type 0 where
-  pub is : w .tag ≡ tag (keyKind k)
-  pub says : Says s k (w .content) (w .size)
-  pub fits : KeyFits k
-
-pub record HeldKey (s : List ℕ) (w : KeyWords) : Type 0 where
-  pub key : Key
-  pub held : Held s key w
 
 -- words 0, 2 and 3 of a node
 abbrev pub keyWords : List ℕ → (node : ℕ) → KeyWords

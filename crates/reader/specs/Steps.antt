@@ -17,10 +17,11 @@ use Rattle.scanner.specs.declared.Scan.{Scan}
 use Rattle.reader.specs.declared.cursor.Cursor.{Cursor}
 use Rattle.reader.specs.declared.cursor.Step.{Step}
 use Rattle.reader.specs.declared.cursor.Gate.{Gate}
+use Rattle.keys.specs.KeyWords.{Held}
 use Rattle.reader.specs.declared.seen.Highest.{Highest}
 use Rattle.reader.specs.Texts.{kindFor, isArrayTag}
 use Rattle.reader.specs.Nodes.{wordAt}
-use Rattle.reader.specs.KeysSeen.{Held, keyWords, Chain, Under}
+use Rattle.reader.specs.KeysSeen.{keyWords, Chain, Under}
 
 -- ---- ordinals and the nodes that take them
 

@@ -35,10 +35,6 @@ containerTag b = OneOf (Kind.array ∷ Kind.object ∷ []) b
 abbrev pub referenceTag : ℕ → Type 0
 referenceTag b = OneOf (Kind.objectReference ∷ Kind.variableReference ∷ []) b
 
-abbrev pub keyKind : Key → Kind
-keyKind (intKey x) = Kind.int
-keyKind (stringKey q) = Kind.string
-
 abbrev pub keyTold : (at : ℕ) → Told Key
 keyTold at (intKey x) next = literalTold x next
 keyTold at (stringKey q) next = quotedTold at q next

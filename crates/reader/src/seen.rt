@@ -1,28 +1,23 @@
 // Whether a key equals an earlier one of its container: by a walk over the pairs, or at once for an integer above all before.
 use crate::WIDTH;
 use format::kind::Kind;
-use scanner::bytes::same_bytes;
+use keys::KeyWords;
+use keys::same_key;
 ghost use mathlib.Core.Path.{_≡_};
 ghost use mathlib.Core.List.{List};
 ghost use Prim.Native.Nat.{_+_, _*_, _≤_};
 ghost use lib.ListN.{length};
 ghost use Rattle.format.specs.Syntax.{Key};
-ghost use Rattle.format.specs.Keys.{sameKey, hasKey};
+ghost use Rattle.format.specs.Keys.{hasKey};
 ghost use Rattle.format.specs.Table.{width};
-ghost use Rattle.reader.specs.KeysSeen.{rank, Held, HeldKey, keyWords, Chain, Walk, Under, Raised};
+ghost use Rattle.keys.specs.KeyWords.{Held};
+ghost use Rattle.reader.specs.KeysSeen.{rank, keyWords, Chain, Walk, Under, Raised};
 
 // Word 0 of an integer key.
 const INT_TAG: u64 = Kind::INT as u64;
 
 // From a key's node on: word 5 of the value's node behind it says where the pair ends.
 const PAIR_END: usize = WIDTH + 5;
-
-// A key by words 0, 2 and 3 of its node.
-pub struct KeyWords {
-    pub tag: u64,
-    pub content: u64,
-    pub size: u64,
-}
 
 // The highest rank of the integer keys so far.
 pub enum Highest {
@@ -50,38 +45,15 @@ pub(crate) fn key_at(table: &[u64], node: usize) -> KeyWords
     }
 }
 
-// Whether two keys are equal: two integers with one pattern, or two strings of the same bytes.
-fn same_key(source: &[u8], a: KeyWords, b: KeyWords) -> bool
-    requires { ⌜ HeldKey (now source) a × HeldKey (now source) b ⌝ }
-    ensures { λ r. ⌜ ((j k : Key) → Held (now (source .entry)) j a → Held (now (source .entry)) k b → r ≡ sameKey k j) ⌝ }
-{
-    if a.tag != b.tag {
-        return false;
-    }
-    if a.tag == INT_TAG {
-        return b.content == a.content;
-    }
-    if b.size != a.size {
-        return false;
-    }
-    let from = a.content as usize;
-    let start = b.content as usize;
-    let size = a.size as usize;
-    let to = from + size;
-    let end = start + size;
-    same_bytes(&source[start..end], &source[from..to])
-}
-
 // Whether a key equals one of those of the pairs that stand from node `first` up to `node`, one by one.
 fn walk(source: &[u8], table: &[u64], first: usize, node: usize, key: KeyWords) -> bool
     requires { ⌜ node * width ≤ length (now table) ⌝ }
     requires { ⌜ Walk (now source) (now table) first node ⌝ }
-    requires { ⌜ HeldKey (now source) key ⌝ }
     ensures { λ r. ⌜ ((k : Key) (ks : List Key) → Held (now (source .entry)) k key → Chain (now (source .entry)) (now (table .entry)) first node ks → r ≡ hasKey k ks) ⌝ }
 {
     let mut i = first;
     while i < node {
-        if same_key(source, key_at(table, i), key) {
+        if same_key(source, key, source, key_at(table, i)) {
             return true;
         }
         i = table[i * WIDTH + PAIR_END] as usize;
@@ -100,7 +72,6 @@ pub(crate) fn key_seen(
 ) -> bool
     requires { ⌜ node * width ≤ length (now table) ⌝ }
     requires { ⌜ Walk (now source) (now table) first node ⌝ }
-    requires { ⌜ HeldKey (now source) key ⌝ }
     ensures { λ r. ⌜ ((k : Key) (ks : List Key) → Held (now (source .entry)) k key → Chain (now (source .entry)) (now (table .entry)) first node ks → Under highest ks → r ≡ hasKey k ks) ⌝ }
 {
     if key.tag == INT_TAG {

@@ -12,8 +12,9 @@ use Rattle.format.specs.Bytes.{byte, bytes, sameBytes}
 use Rattle.format.specs.Answer.{Answer, ok, refused, _>>=_, require}
 use Rattle.format.specs.Read.{expect, boolText}
 use Rattle.scanner.specs.declared.Scan.{Scan}
-use Rattle.scanner.specs.Scans.{byteAt, Scans, found, unfit, nullText, tell, nothingTold, boolTold}
-use Rattle.scanner.proofs.BytesAt.{byte-in, byte-there, drop-byte, expect-yes, expect-no, pair-first, pair-second, pair-there}
+use Rattle.bytes_at.specs.ByteAt.{byteAt}
+use Rattle.scanner.specs.Scans.{Scans, found, unfit, nullText, tell, nothingTold, boolTold}
+use Rattle.bytes_at.proofs.BytesAt.{byte-in, byte-there, drop-byte, expect-yes, expect-no, pair-first, pair-second, pair-there}
 
 module _ (s : List ℕ) (at : ℕ) where
   pub null-open : eqb (byteAt s at) (byte ";") ≡ false → Scans nullText nothingTold s at (Scan.Not 2)

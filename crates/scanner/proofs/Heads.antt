@@ -10,8 +10,9 @@ use Rattle.format.specs.Syntax.{array, object}
 use Rattle.format.specs.Read.{quotedText}
 use Rattle.scanner.specs.declared.Text.{Text}
 use Rattle.scanner.specs.declared.Scan.{Scan}
-use Rattle.scanner.specs.Scans.{byteAt, Found, Scans, found, unfit, countText, headText, tell, countTold, quotedTold, headTold}
-use Rattle.scanner.proofs.BytesAt.{expect-yes, expect-no}
+use Rattle.bytes_at.specs.ByteAt.{byteAt}
+use Rattle.scanner.specs.Scans.{Found, Scans, found, unfit, countText, headText, tell, countTold, quotedTold, headTold}
+use Rattle.bytes_at.proofs.BytesAt.{expect-yes, expect-no}
 use Rattle.scanner.proofs.Numbers.{unfit-part}
 
 module _ (s : List ℕ) (at : ℕ) where

@@ -1,4 +1,3 @@
-pub mod BytesAt
 pub mod Numbers
 pub mod Flags
 pub mod Quotes

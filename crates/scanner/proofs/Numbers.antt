@@ -23,9 +23,12 @@ use Rattle.format.specs.Read.{expect, digits, number, intText}
 use Rattle.format.specs.Table.{word}
 use Rattle.scanner.specs.declared.Text.{Text}
 use Rattle.scanner.specs.declared.Scan.{Scan}
-use Rattle.scanner.specs.Scans.{byteAt, Reader, Told, Found, Scans, found, unfit, scanned, scanOf, Answers, countText, namedText, tell, valueTold, literalTold, countTold}
+use Rattle.scanner.specs.Scans.{Reader, Told, Found, Scans, found, unfit, scanned, scanOf, Answers, countText, namedText, tell, valueTold, literalTold, countTold}
 use Rattle.scanner.specs.Parts.{digitsText, signedText, signedTold}
-use Rattle.scanner.proofs.BytesAt.{byte-there, drop-byte, byte-other, expect-yes, expect-no, pair-there, pair-yes, pair-no}
+use Rattle.bytes_at.specs.ByteAt.{byteAt}
+use Rattle.bytes_at.proofs.BytesAt.{byte-there, expect-yes, expect-no, pair-there, pair-yes, pair-no}
+use Rattle.bytes_at.proofs.Signs.{SignAt}
+use Rattle.bytes_at.proofs.Runs.{run-rest, run-short}
 
 -- ---- answers
 
@@ -97,20 +100,6 @@ after-part {A} {B} (ok q) e f = go (e (q .1))
 
 -- ---- runs of digits
 
-module _ (s : List ℕ) (at cap : ℕ) (r : Run) (h : RunAt s at cap r) where
-  pub run-rest : afterDigits (drop at s) ≡ drop (r .next) s
-  run-rest =
-      sym (drop-append-seam (digitsOf (drop at s)) (afterDigits (drop at s)))
-      ∙ ap (drop (length (digitsOf (drop at s)))) (sym (digits-split (drop at s)))
-      ∙ drop-drop (length (digitsOf (drop at s))) at s
-      ∙ ap (λ (k : ℕ). drop k s) (sym (h .next))
-
-  run-short : length (digitsOf (drop at s)) ≤ length s - at
-  run-short = omega (arith, length-drop at s, ap length (digits-split (drop at s)), length-append (digitsOf (drop at s)) (afterDigits (drop at s)))
-
-  pub run-inside : at ≤ length s → r .next ≤ length s
-  run-inside l = omega (arith, run-short, h .next)
-
 module _ (s : List ℕ) (at top : ℕ) (r : Run) (h : RunAt s at (top + 1) r) where
   pub digits-none : r .next ≡ at → Scans (digitsText top) valueTold s at (Scan.Not 2)
   unfolding digits
@@ -160,25 +149,6 @@ module _ (s : List ℕ) (at : ℕ) (negative : Bool) (top : ℕ) (run : Text) (n
 pub magnitude-not : {s : List ℕ} {at c : ℕ} {r : Scan} (negative : Bool) (top : ℕ) → Scans (digitsText top) valueTold s at r → r ≡ Scan.Not c → Scans (signedText top) (signedTold negative) s at r
 unfolding signedText
 magnitude-not negative top h e = unfit-part h e (λ l q. rw (signedText, q))
-
--- the sign in front, and the index behind it
-pub record SignAt (s : List ℕ) (at : ℕ) (sign : Sign) (next : ℕ) : Type 0 where
-  pub is : signOf (drop at s) ≡ (sign, drop next s)
-  pub on : at ≤ next
-
-module _ (s : List ℕ) (at : ℕ) where
-  pub sign-plus : eqb (byteAt s at) (byte "+") ≡ true → SignAt s at plus (at + 1)
-  sign-plus e = record { is = ap signOf (drop-byte s at (byte "+") (lit< tt) e); on = omega arith }
-
-  pub sign-minus : eqb (byteAt s at) (byte "-") ≡ true → SignAt s at minus (at + 1)
-  sign-minus e = record { is = ap signOf (drop-byte s at (byte "-") (lit< tt) e); on = omega arith }
-
-  pub sign-none : eqb (byteAt s at) (byte "+") ≡ false → eqb (byteAt s at) (byte "-") ≡ false → SignAt s at unsigned at
-  sign-none p m = record { is = go (order at (length s)); on = omega arith }
-    where
-      go : Order at (length s) → signOf (drop at s) ≡ (unsigned, drop at s)
-      go (below k) = rw (drop-cons s at 0 k, signOf, byte-other s at (byte "+") k p, byte-other s at (byte "-") k m)
-      go (above k) = rw (drop-of-length-le s k)
 
 abbrev isMinus : Sign → Bool
 isMinus unsigned = false

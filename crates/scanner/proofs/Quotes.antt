@@ -17,9 +17,10 @@ use Rattle.format.specs.Read.{expect, quotedText}
 use Rattle.format.proofs.Texts.{digits-ok}
 use Rattle.scanner.specs.declared.Text.{Text}
 use Rattle.scanner.specs.declared.Scan.{Scan}
-use Rattle.scanner.specs.Scans.{byteAt, Found, Scans, found, unfit, tell, valueTold, quotedTold}
+use Rattle.bytes_at.specs.ByteAt.{byteAt}
+use Rattle.scanner.specs.Scans.{Found, Scans, found, unfit, tell, valueTold, quotedTold}
 use Rattle.scanner.specs.Parts.{digitsText}
-use Rattle.scanner.proofs.BytesAt.{expect-yes, expect-no, pair-there, pair-yes, pair-no}
+use Rattle.bytes_at.proofs.BytesAt.{expect-yes, expect-no, pair-there, pair-yes, pair-no}
 use Rattle.scanner.proofs.Numbers.{unfit-part, number-is, number-not}
 
 module _ (s : List ℕ) (at close : ℕ) (small : close < 256) where

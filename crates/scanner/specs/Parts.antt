@@ -6,7 +6,6 @@ use Prim.Native.Nat.{ℕ, _-_, _≤_, _<_}
 use lib.ListN.{length, getD, take, drop}
 use Rattle.decimal.specs.Complement.{pattern}
 use Rattle.format.specs.Bytes.{byte, bytes}
-use Rattle.format.specs.Limits.{signOf}
 use Rattle.format.specs.Answer.{ok, _>>=_}
 use Rattle.format.specs.Read.{expect, until, digits}
 use Rattle.scanner.specs.Scans.{Reader, Told, tell}
@@ -26,12 +25,7 @@ signedText top l s = do
 abbrev pub signedTold : (negative : Bool) → Told (ℕ × ℕ)
 signedTold negative n next = tell (pattern 64 negative (n .1)) 0 0 next
 
--- ---- parts of a float text
-
-pub record SignEnd (s : List ℕ) (at next : ℕ) : Type 0 where
-  pub rest : signOf (drop at s) .1 ≡ drop next s
-  pub inside : next ≤ length s
-  pub on : at ≤ next
+-- ---- the end of a float text
 
 pub record SemicolonAt (s : List ℕ) (at next : ℕ) : Type 0 where
   pub part : until (byte ";") (drop at s) ≡ take (next - at) (drop at s)

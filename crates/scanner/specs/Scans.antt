@@ -3,7 +3,7 @@ use mathlib.Core.Path.{_≡_}
 use mathlib.Core.List.{List, []}
 use mathlib.Core.Bool.{Bool, true, false}
 use Prim.Native.Nat.{ℕ, _+_, _-_, _≤_, _<_}
-use lib.ListN.{length, getD, drop}
+use lib.ListN.{length, drop}
 use Rattle.format.specs.Bytes.{bytes}
 use Rattle.format.specs.Tree.{one}
 use Rattle.format.specs.Kind.{Kind, scalarKinds}
@@ -14,10 +14,6 @@ use Rattle.format.specs.Read.{kindOf, expect, number, intText, quotedText, bool
 use Rattle.format.specs.Table.{word}
 use Rattle.scanner.specs.declared.Text.{Text}
 use Rattle.scanner.specs.declared.Scan.{Scan}
-
--- the byte at an index, and 256, which is no byte, past the end
-unfoldable pub byteAt : List ℕ → ℕ → ℕ
-byteAt s i = getD s i 256
 
 -- what is read of a text behind a tag at `l`, and what is left
 abbrev pub Reader : Type 0 → Type 0

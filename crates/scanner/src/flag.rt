@@ -1,8 +1,8 @@
 // The semicolon of an N, the bit of a b. The index is the one behind the tag.
 use crate::Scan;
 use crate::Text;
-use crate::bytes::byte_is;
-use crate::bytes::bytes_are;
+use bytes_at::byte_is;
+use bytes_at::bytes_are;
 ghost use Rattle.format.specs.Read.{boolText};
 ghost use Rattle.scanner.specs.Scans.{Answers, nullText, nothingTold, boolTold};
 

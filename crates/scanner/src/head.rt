@@ -1,9 +1,9 @@
 // The heads of containers, up to the first pair. The index is the one behind the tag.
 use crate::Scan;
 use crate::Text;
-use crate::bytes::byte_is;
 use crate::number::count;
 use crate::quoted::quoted;
+use bytes_at::byte_is;
 ghost use mathlib.Core.Bool.{true, false};
 ghost use Rattle.scanner.specs.Scans.{Answers, headText, headTold};
 

@@ -1,5 +1,4 @@
 // The texts behind a tag: what a text tells its value's node, or why it is none.
-pub mod bytes;
 pub mod flag;
 pub mod float;
 pub mod head;

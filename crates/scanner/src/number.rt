@@ -1,8 +1,8 @@
 // Texts of digits: integers, counts of pairs, ordinals that a reference names. The index is the one behind the tag.
 use crate::Scan;
 use crate::Text;
-use crate::bytes::byte_is;
-use crate::bytes::bytes_are;
+use bytes_at::byte_is;
+use bytes_at::bytes_are;
 ghost use Prim.Native.Nat.{_-_, _<_, _^_};
 ghost use Rattle.format.specs.Read.{intText};
 ghost use Rattle.scanner.specs.Scans.{Scans, Answers, countText, namedText, valueTold, literalTold, countTold};

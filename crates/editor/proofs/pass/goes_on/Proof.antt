@@ -1,5 +1,5 @@
 -- `editor::pass::goes_on` meets its contract. Assumes nothing.
-use Rattle.scanner.specs.Scans.{byteAt}
+use Rattle.bytes_at.specs.ByteAt.{byteAt}
 use Rattle.editor.proofs.Passes as passes
 use mathlib.Core.Path.{sym, _∙_}
 use native.Mathlib.Omega.{arith}

@@ -45,7 +45,7 @@ cast-t19 : tie.Need-cast-t19
 cast-t19 c = omega (arith, c .before .before .before .before .before .before .before .shared-slice-known2 .given (c .before .before .before .before .before .before .before .before .before .before .before .args .cursor .at))
 
 key-seen-requires : tie.Need-key-seen-requires
-key-seen-requires c κs = (omega (arith, c .before .before .before .before .before .before .before .before .before .before .before .before .pre .0 .table, c .before .before .before .before .before .before .before .before .before .before .before .before .pre .0 .node), (c .before .before .before .before .before .before .before .before .before .before .before .before .pre .1, record { key = (found-of (c .before .before .before .before .key-text .ensures) (c .before .before .scan .given .1)) .what; held = steps.held-of _ _ _ (tagged.key-any (isArrayTag (c .before .before .before .before .before .before .before .before .before .before .before .before .args .container)) (getD (c .before .before .before .before .before .before .before .before .before .before .before .before .args .source .now) (c .before .before .before .before .before .before .before .before .before .before .before .before .args .cursor .at) 0) (sym (c .before .before .before .before .before .before .before .key-allowed .ensures) ∙ not-false _ (c .before .before .before .before .before .before .if2 .left))) (c .before .before .before .before .before .before .before .before .before .if1 .left) refl _ (found-of (c .before .before .before .before .key-text .ensures) (c .before .before .scan .given .1)) }))
+key-seen-requires c κs = (omega (arith, c .before .before .before .before .before .before .before .before .before .before .before .before .pre .0 .table, c .before .before .before .before .before .before .before .before .before .before .before .before .pre .0 .node), c .before .before .before .before .before .before .before .before .before .before .before .before .pre .1)
 
 same-length : tie.Need-same-length
 same-length c = search needs

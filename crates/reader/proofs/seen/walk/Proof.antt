@@ -1,8 +1,9 @@
 -- `reader::seen::walk` meets its contract. Assumes nothing.
 use Prim.Native.Nat.{_-_}
 use native.Mathlib.Omega.{arith}
-use mathlib.Core.Path.{sym, subst}
-use Rattle.reader.specs.KeysSeen.{Held, HeldKey}
+use mathlib.Core.Path.{ap, _∙_}
+use borrow.Author.Needs.{needs}
+use Rattle.keys.specs.KeyWords.{sameWords}
 use Rattle.reader.proofs.KeyLaws as keys
 use Rattle.reader.proofs.seen.walk.Statement.{statement}
 use Rattle.reader.proofs.seen.walk.Tie as tie
@@ -14,16 +15,16 @@ abbrev μ-loop : tie.MeasureT-loop
 μ-loop source table first node key i₀ i = node - i
 
 loop-holds : tie.Need-loop-holds Inv-loop μ-loop
-loop-holds c = keys.left-none (c .before .before .pre .1 .0)
+loop-holds c = keys.left-none (c .before .before .pre .1)
 
 key-at-requires : tie.Need-key-at-requires Inv-loop μ-loop
 key-at-requires c κs = omega (arith, keys.left-on (c .before .loop .inv) (c .loop-test .taken), keys.left-in (c .before .loop .inv) (c .loop-test .taken))
 
 same-key-requires : tie.Need-same-key-requires Inv-loop μ-loop
-same-key-requires c κs = (subst (HeldKey _) (sym (c .key-at .ensures)) (keys.held-here (c .before .before .loop .inv) (c .before .loop-test .taken)), c .before .before .before .before .before .pre .1 .1)
+same-key-requires c κs = search needs
 
 returns : tie.Need-returns Inv-loop μ-loop
-returns c = keys.left-found (c .before .before .before .before .loop .inv) (c .before .before .before .loop-test .taken) _ (λ j k h g. c .before .same-key .ensures j k (subst (Held _ j) (sym (c .before .before .key-at .ensures)) h) g) (c .if1 .taken)
+returns c = keys.left-found (c .before .before .before .before .loop .inv) (c .before .before .before .loop-test .taken) _ (c .before .same-key .ensures ∙ ap (sameWords _ _ _) (c .before .before .key-at .ensures)) (c .if1 .taken)
 
 mul-i : tie.Need-mul-i Inv-loop μ-loop
 mul-i c = omega (arith, keys.left-on (c .before .before .before .before .loop .inv) (c .before .before .before .loop-test .taken), keys.left-in (c .before .before .before .before .loop .inv) (c .before .before .before .loop-test .taken))
@@ -41,7 +42,7 @@ loop-less : tie.Need-loop-less Inv-loop μ-loop
 loop-less c = omega (arith, keys.left-on (c .before .before .before .before .before .loop .inv) (c .before .before .before .before .loop-test .taken), keys.left-in (c .before .before .before .before .before .loop .inv) (c .before .before .before .before .loop-test .taken))
 
 loop-again : tie.Need-loop-again Inv-loop μ-loop
-loop-again c = keys.left-more (c .before .before .before .before .before .loop .inv) (c .before .before .before .before .loop-test .taken) _ (λ j k h g. c .before .before .same-key .ensures j k (subst (Held _ j) (sym (c .before .before .before .key-at .ensures)) h) g) (c .before .if1 .left)
+loop-again c = keys.left-more (c .before .before .before .before .before .loop .inv) (c .before .before .before .before .loop-test .taken) _ (c .before .before .same-key .ensures ∙ ap (sameWords _ _ _) (c .before .before .before .key-at .ensures)) (c .before .if1 .left)
 
 returns-2 : tie.Need-returns-2 Inv-loop μ-loop
 returns-2 c = keys.left-end (c .before .loop .inv) (c .loop-test .left)

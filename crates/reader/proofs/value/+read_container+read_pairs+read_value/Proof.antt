@@ -7,7 +7,7 @@ use mathlib.Core.Path.{sym, ap, _∙_, subst}
 use lib.Dec.{lit<}
 use lib.ListN.{length}
 use Rattle.format.specs.Bytes.{byte}
-use Rattle.scanner.proofs.BytesAt.{byte-there}
+use Rattle.bytes_at.proofs.BytesAt.{byte-there}
 use Rattle.scanner.proofs.Numbers.{found-of}
 use Rattle.reader.specs.declared.cursor.Cursor.{Cursor}
 use Rattle.reader.specs.Steps.{Meets, MeetsPairs, MeetsKey, GateAt}
@@ -36,7 +36,7 @@ use Rattle.reader.proofs.seen.key_at.Reads as key-at-reads
 use Rattle.reader.proofs.seen.raised.Reads as raised-reads
 use Rattle.reader.proofs.table.enter.Reads as enter-reads
 use Rattle.reader.proofs.table.put_end.Reads as put-end-reads
-use Rattle.scanner.proofs.bytes.byte_is.Reads as byte-is-reads
+use Rattle.bytes_at.proofs.byte_is.Reads as byte-is-reads
 use Rattle.reader.proofs.value.+read_container+read_pairs+read_value.{statement}
 use Rattle.reader.proofs.value.+read_container+read_pairs+read_value.Tie.{close}
 

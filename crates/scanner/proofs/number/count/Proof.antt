@@ -3,7 +3,7 @@ use mathlib.Core.Path.{sym, _∙_}
 use native.Mathlib.Omega.{arith}
 use lib.Dec.{lit<}
 use borrow.Author.Tests.{not-true, not-false}
-use Rattle.scanner.proofs.BytesAt.{pair-there}
+use Rattle.bytes_at.proofs.BytesAt.{pair-there}
 use Rattle.scanner.proofs.Numbers.{found-of, count-not, count-open, count-is, answered}
 use borrow.Author.Needs.{needs}
 use Rattle.scanner.proofs.number.count.Statement.{statement}

@@ -5,8 +5,9 @@ use lib.Dec.{lit<}
 use borrow.Author.Tests.{not-true, not-false}
 use Rattle.format.specs.Bytes.{byte}
 use Rattle.format.specs.Syntax.{unsigned, plus, minus}
-use Rattle.scanner.proofs.BytesAt.{byte-there}
-use Rattle.scanner.proofs.Numbers.{sign-plus, sign-minus, sign-none, int-open, int-is, answered}
+use Rattle.bytes_at.proofs.BytesAt.{byte-there}
+use Rattle.scanner.proofs.Numbers.{int-open, int-is, answered}
+use Rattle.bytes_at.proofs.Signs.{sign-plus, sign-minus, sign-none}
 use borrow.Author.Needs.{needs}
 use Rattle.scanner.proofs.number.int.Statement.{statement}
 use Rattle.scanner.proofs.number.int.Tie as tie

@@ -4,7 +4,7 @@ use native.Mathlib.Omega.{arith}
 use lib.Dec.{lit<}
 use borrow.Author.Tests.{not-true, not-false}
 use Rattle.format.specs.Bytes.{byte}
-use Rattle.scanner.proofs.BytesAt.{byte-there}
+use Rattle.bytes_at.proofs.BytesAt.{byte-there}
 use Rattle.scanner.proofs.Numbers.{found-of, magnitude-not, magnitude-open, magnitude-is}
 use borrow.Author.Needs.{needs}
 use Rattle.scanner.proofs.number.magnitude.Statement.{statement}
