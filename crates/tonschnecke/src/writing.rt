@@ -1,9 +1,11 @@
 // The services that write a plan, for C.
 use editor::Writing;
+ghost use mathlib.Core.Path.{_≡_};
 ghost use lib.ListN.{length};
-ghost use Rattle.format.specs.Writing.{canonicalBytes};
+ghost use Rattle.format.specs.Writing.{canonicalBytes, insertBytes};
 ghost use Rattle.format.specs.Reading.{capacityOf};
-ghost use Rattle.tonschnecke.specs.Promise.{Writes};
+ghost use Rattle.editor.specs.Promise.{answerOf};
+ghost use Rattle.tonschnecke.specs.Promise.{writingOf, Writes};
 
 // What a service that writes a plan answers. Code 0: written, and `at` is 0; a refusal has length 0.
 #[repr(C)]
@@ -13,12 +15,11 @@ pub struct TonWriting {
     pub length: u64,
 }
 
-// Writes the canonical text of a plan, and leaves the table that reading it leaves. A refusal writes nothing, and makes every word of the table zero.
-#[no_mangle]
-pub extern "C" fn ton_canonicalize(source: &[u8], table: &mut [u64], out: &mut [u8]) -> TonWriting
-    ensures { λ r. ⌜ Writes (canonicalBytes (capacityOf (now (table .entry))) (length (now (out .entry))) (now (source .entry))) (now (source .entry)) (now (table .entry)) (now (table .exit)) (now (out .entry)) (now (out .exit)) r ⌝ }
+// The answer as C gets it.
+fn as_struct(writing: Writing) -> TonWriting
+    ensures { λ r. ⌜ r ≡ writingOf (answerOf writing) ⌝ }
 {
-    match editor::canonicalize(source, table, out) {
+    match writing {
         Writing::Written { length } => TonWriting {
             code: 0,
             at: 0,
@@ -30,4 +31,28 @@ pub extern "C" fn ton_canonicalize(source: &[u8], table: &mut [u64], out: &mut [
             length: 0,
         },
     }
+}
+
+// Writes the canonical text of a plan, and leaves the table that reading it leaves. A refusal writes nothing, and makes every word of the table zero.
+#[no_mangle]
+pub extern "C" fn ton_canonicalize(source: &[u8], table: &mut [u64], out: &mut [u8]) -> TonWriting
+    ensures { λ r. ⌜ Writes (canonicalBytes (capacityOf (now (table .entry))) (length (now (out .entry))) (now (source .entry))) (now (source .entry)) (now (table .entry)) (now (table .exit)) (now (out .entry)) (now (out .exit)) r ⌝ }
+{
+    as_struct(editor::canonicalize(source, table, out))
+}
+
+// Puts one pair into an array of a plan, and leaves the table that reading the plan written leaves. A refusal writes nothing, and makes every word of the table zero.
+#[no_mangle]
+pub extern "C" fn ton_insert(
+    source: &[u8],
+    array_node: usize,
+    pair_index: usize,
+    key: &[u8],
+    value: &[u8],
+    table: &mut [u64],
+    out: &mut [u8],
+) -> TonWriting
+    ensures { λ r. ⌜ Writes (insertBytes (capacityOf (now (table .entry))) (length (now (out .entry))) (now (source .entry)) «array_node» «pair_index» (now (key .entry)) (now (value .entry))) (now (source .entry)) (now (table .entry)) (now (table .exit)) (now (out .entry)) (now (out .exit)) r ⌝ }
+{
+    as_struct(editor::insert(source, array_node, pair_index, key, value, table, out))
 }
