@@ -29,7 +29,7 @@ run:
 compare: archive
 	rt check nodes
 	tests/nodes.sh $(CURDIR)/target/bin/nodes
-	for example in read canonicalize; do \
+	for example in read canonicalize insert; do \
 		gcc -std=c99 -Wall -Wextra -Werror -pedantic -Iinclude examples/$$example.c $(BUILD)/libtonschnecke.a -o $(BUILD)/$$example && \
 		$(BUILD)/$$example | diff examples/$$example.out - || exit 1; \
 	done

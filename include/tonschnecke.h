@@ -1,11 +1,12 @@
-/* Tonschnecke: reads a PHP-serialized value (a plan) into a table of nodes, and writes its canonical text.
+/* Tonschnecke: reads a PHP-serialized value (a plan) into a table of nodes, writes its canonical text, and puts a pair into one
+ * of its arrays.
  *
  * Link with libtonschnecke.a. What is said here of the result, the table and the output is proved of the Rattle code,
  * for every source, every table and every output; crates/tonschnecke/specs/Promise.antt says it exactly.
  *
- * The caller of each function owes: source is readable for source_len bytes, table is writable for table_len words (not
- * bytes, not nodes), out for out_len bytes; none of them overlaps another, and nothing else writes to them during the
- * call. A pointer may be null only if its length is 0. A call keeps no pointer, uses no other memory but the stack, and
+ * The caller of each function owes: source is readable for source_len bytes (key and value for key_len and value_len), table
+ * is writable for table_len words (not bytes, not nodes), out for out_len bytes; what is writable overlaps nothing else, and
+ * nothing else writes to any of them during the call. A pointer may be null only if its length is 0. A call keeps no pointer, uses no other memory but the stack, and
  * ends for every input. */
 #ifndef TONSCHNECKE_H
 #define TONSCHNECKE_H
@@ -61,9 +62,18 @@ ton_reading ton_read(const uint8_t *source, size_t source_len, uint64_t *table, 
 
 /* What a function that writes a plan answers.
  * Written: code is 0 and at is 0; length is that of the bytes written.
- * Refused: code is 1 to 10 with its position, as ton_read refuses the source; or, where reading accepts it,
- *    14   the bytes to write exceed out_len, or 65,536                      0
- * and length is 0. */
+ * Refused: code is 1 to 10 with its position, as ton_read refuses the source; or, where reading accepts it, one of these
+ * with at 0; and length is 0.
+ *
+ *    11   the node is no array                                              ton_insert
+ *    12   the place is above the array's count                              ton_insert
+ *    13   the key is not exactly one i or s, or the value not exactly one N, b, i, d or s   ton_insert
+ *     9   the key equals a key of the array                                 ton_insert
+ *     8   the array is at depth 64                                          ton_insert
+ *     7   the table has no room for two nodes more                          ton_insert
+ *    14   the bytes to write exceed out_len, or 65,536                      each function that writes
+ *
+ * in this order: the first that holds is given. */
 typedef struct {
     uint64_t code, at, length;
 } ton_writing;
@@ -79,6 +89,24 @@ typedef struct {
  * examples/canonicalize.c is a whole program that calls it. */
 ton_writing ton_canonicalize(const uint8_t *source, size_t source_len, uint64_t *table, size_t table_len, uint8_t *out,
                              size_t out_len);
+
+/* Puts one pair into one array of the source: before the pair at place pair_index (0 is the first), or behind the last one if
+ * pair_index is the array's count. array_node is the index of the array's node, as ton_read leaves it in the table. key and
+ * value are serialized texts, as i:59; and d:2; and go in as they stand.
+ *
+ * The bytes written are the old ones with three changes: the array's count, in shortest form; the pair; and the number of each
+ * reference to a value behind the new one, which is one higher now, in shortest form. So every reference still names the
+ * value that it named.
+ *
+ * Written: out holds the new plan, and behind it what it held before; the table is what reading the source and then the new
+ * plan leaves: two nodes more. A table with room for them and an out of 65,536 bytes are always enough, since a longer plan
+ * would be refused anyway.
+ * Refused: every byte of out is as it was, and every word of the table 0.
+ *
+ * examples/insert.c is a whole program that calls it. */
+ton_writing ton_insert(const uint8_t *source, size_t source_len, size_t array_node, size_t pair_index, const uint8_t *key,
+                       size_t key_len, const uint8_t *value, size_t value_len, uint64_t *table, size_t table_len,
+                       uint8_t *out, size_t out_len);
 
 #ifdef __cplusplus
 }
