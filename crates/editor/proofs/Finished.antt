@@ -1,13 +1,12 @@
 -- Inserting from reading to its answer. Assumes nothing.
-use Prim.Native.Nat.{ℕ, _/_, _≤_, _<_}
+use Prim.Native.Nat.{ℕ, _/_, _≤_}
 use native.Mathlib.Omega.{arith}
 use mathlib.Core.Path.{_≡_, sym, ap, _∙_, subst}
-use mathlib.Core.Bool.{Bool, true, false, not}
+use mathlib.Core.Bool.{Bool, true, false}
 use mathlib.Core.List.{List}
-use lib.Dec.{T, leb, leb→le, le→leb, not-T}
+use lib.Dec.{leb, leb→le, le→leb, not-T}
 use lib.ListN.{length}
 use Rattle.decimal.proofs.Decide.{T-of, T-false, T-true, and-T, and-left, and-right}
-use Rattle.format.specs.Syntax.{Value}
 use Rattle.format.specs.Limits.{sourceLimit}
 use Rattle.format.specs.Fits.{IsPlan}
 use Rattle.format.specs.Answer.{Answer, refused, ok, require, _>>=_}

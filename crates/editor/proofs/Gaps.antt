@@ -25,7 +25,7 @@ use Rattle.editor.specs.declared.placing.Spot.{Spot}
 use Rattle.editor.specs.Tokens.{Token, readToken, tokenTold, scalar, opening, closing, keyScalar, tokens, tokensIn, writeToken, writeTokens, raisedToken, AllFit}
 use Rattle.editor.specs.Rewriting.{changedText}
 use Rattle.editor.specs.Passing.{Ahead, Reached}
-use Rattle.editor.specs.Inserting.{HeadAhead, BehindHead, SpotAhead, SpotIs, Inserts, insertedText}
+use Rattle.editor.specs.Inserting.{HeadAhead, BehindHead, SpotAhead, SpotIs, Inserts}
 use Rattle.editor.proofs.TokenLaws.{tokens-write, tokens-append, all-append, tokens-fit, token-front, tokens-front, key-written}
 use Rattle.editor.proofs.Rewritten.{standing, never-unfit}
 use Rattle.editor.proofs.PairParts.{upto, after}

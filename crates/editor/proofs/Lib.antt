@@ -19,3 +19,4 @@ pub mod Measures
 pub mod Finished
 pub mod Ended
 pub mod Canonicalizing
+pub mod Inserting

@@ -1,13 +1,12 @@
 -- How long the plan with the pair in it can be: no index overflows. Assumes nothing.
-use Prim.Native.Nat.{ℕ, suc, _+_, _*_, _≤_, _<_, _^_}
+use Prim.Native.Nat.{ℕ, suc, _+_, _*_, _≤_}
 use native.Mathlib.Omega.{arith}
-use mathlib.Core.Path.{_≡_, sym, ap, _∙_, subst}
+use mathlib.Core.Path.{_≡_, ap, _∙_}
 use mathlib.Core.List.{List, [], _∷_, _++_}
-use lib.Dec.{lit<}
 use lib.ListN.{length, drop, length-append, length-drop}
 use Rattle.decimal.specs.Digits.{decimal, spelled}
 use Rattle.decimal.proofs.Decide.{Order, below, above, order}
-use Rattle.decimal.proofs.Numerals.{decimal-length, spelled-some, spelled-length}
+use Rattle.decimal.proofs.Numerals.{decimal-length, spelled-some}
 use Rattle.format.specs.Syntax.{Reference}
 use Rattle.format.specs.Limits.{numberLimit, sourceLimit}
 use Rattle.format.specs.Canonical.{shortest}

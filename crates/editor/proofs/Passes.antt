@@ -24,7 +24,7 @@ use Rattle.editor.specs.declared.pass.Passed.{Passed}
 use Rattle.editor.proofs.TokenLaws.{token-longer}
 use Rattle.editor.proofs.Tagged.{tagged}
 use Rattle.editor.proofs.Respelled.{first-byte}
-use Rattle.editor.proofs.Rewritten.{Standing, standing, never-unfit}
+use Rattle.editor.proofs.Rewritten.{standing, never-unfit}
 
 -- ---- a token's first byte
 
@@ -52,7 +52,7 @@ module _ (b left o c : ℕ) where
   pub goes-brace : left ≤ 0 → c < o → eqb b 125 ≡ goesOn b left o c
   goes-brace h k = sym (rw (le-ltb 0 left h, lt-ltb c o k))
 
-differ : true ≡ false → ⊥
+pub differ : true ≡ false → ⊥
 differ e = let z : _≡_ {A = ℕ} 0 1 = cc in omega arith
 
 module _ (b left o c : ℕ) where

@@ -2,16 +2,15 @@
 use Prim.Native.Nat.{ℕ, suc, _+_, _-_, _*_, _≤_, _<_}
 use native.Mathlib.Omega.{arith}
 use mathlib.Core.Path.{_≡_, refl, sym, ap, ap₂, _∙_, subst}
-use mathlib.Core.Bool.{Bool, true, false, not}
-use mathlib.Core.List.{List, [], _∷_, _++_}
-use lib.Dec.{T, T-not, leb, ltb}
-use lib.ListN.{length, drop, length-append, drop-of-length-le}
-use borrow.Author.Tests.{ltb-true, ltb-false, leb-true, leb-false, not-true, not-false}
-use Rattle.decimal.proofs.Decide.{T-of, T-false}
-use Rattle.format.specs.Bytes.{byte}
+use mathlib.Core.Bool.{true, false, not}
+use mathlib.Core.List.{List, []}
+use lib.Dec.{T-not, leb, ltb}
+use lib.ListN.{length, length-append}
+use borrow.Author.Tests.{ltb-true, ltb-false, leb-true, leb-false, not-false}
+use Rattle.decimal.proofs.Decide.{T-of}
 use Rattle.format.specs.Kind.{Kind, tag}
-use Rattle.format.specs.Tree.{count, nodes, nodesIn}
-use Rattle.format.specs.Syntax.{array, Container, Key, Scalar, Value, Values, writeKey, writeScalar, writeNumber, writeContainer, print}
+use Rattle.format.specs.Tree.{count, nodesIn}
+use Rattle.format.specs.Syntax.{array, Key, Scalar, Value, Values, writeKey, writeScalar}
 use Rattle.format.specs.Keys.{hasKey}
 use Rattle.format.specs.Limits.{depthLimit}
 use Rattle.format.specs.Fits.{KeyFits, ScalarFits}
@@ -22,8 +21,7 @@ use Rattle.format.specs.Reading.{capacityOf}
 use Rattle.format.specs.Edit.{keys, newOrdinal}
 use Rattle.format.specs.Writing.{Site, arrayAt, insertBytes}
 use Rattle.format.proofs.Results.{flat-length, tableOf-length}
-use Rattle.insertion.proofs.Located.{locates}
-use Rattle.insertion.proofs.SiteRows.{in-plan, no-array, site-valid, site-inside, site-depth}
+use Rattle.insertion.proofs.SiteRows.{in-plan, no-array, site-inside, site-depth}
 use Rattle.insertion.proofs.Refusing.{AtArray, AtPlace, WithPair, WithNewKey, WithDepth, WithNodes, RefusedRow, noArray, noPlace, unfit, sameKeyed, tooDeep, noNodes, row-refused, equal-key, has-equal}
 use Rattle.reader.specs.Nodes.{wordAt}
 use Rattle.keys.specs.declared.KeyWords.{KeyWords}

@@ -1,5 +1,5 @@
 -- The text of a token that stands in the source, changed, is the changed token's. Assumes nothing.
-use Prim.Native.Nat.{ℕ, zero, suc, _+_, _-_, _≤_, _<_}
+use Prim.Native.Nat.{ℕ, zero, suc, _+_, _-_, _≤_}
 use native.Mathlib.Nat.{add-zero}
 use native.Mathlib.Numerals.{add-one}
 use native.Mathlib.Omega.{arith}
@@ -8,7 +8,6 @@ use mathlib.Core.List.{List, [], _∷_, _++_, append-assoc}
 use mathlib.Core.Bool.{Bool, true, false}
 use lib.ListN.{length, getD, drop, length-append, length-drop}
 use lib.Seq.{slice, getD-drop}
-use borrow.Author.Tests.{le-leb, lt-leb}
 use Rattle.decimal.specs.Digits.{decimal, spelled}
 use Rattle.decimal.specs.Complement.{pattern}
 use Rattle.decimal.proofs.Decide.{Order, below, above, order}
@@ -21,7 +20,7 @@ use Rattle.format.specs.Keys.{signed, integer}
 use Rattle.format.specs.Limits.{numberLimit, integerLimit}
 use Rattle.format.specs.Table.{word}
 use Rattle.format.specs.Canonical.{shortest, shortestSign}
-use Rattle.format.specs.Edit.{raised}
+use Rattle.insertion.proofs.Meanings as meanings
 use Rattle.format.proofs.Fronts.{sign-front, number-front, number-length, quoted-length}
 use Rattle.scanner.specs.declared.Text.{Text}
 use Rattle.editor.specs.Output.{withSign, signedDigits}
@@ -188,12 +187,6 @@ module _ (s : List ℕ) (at : ℕ) (x : Text) where
 
 -- ---- raised
 
-raises : (k : ℕ) (r : Reference) → k ≤ r .named → raised k r ≡ record { kind = r .kind; spelling = shortest; named = suc (r .named) }
-raises k r h = rw (le-leb k (r .named) h, raised)
-
-keeps : (k : ℕ) (r : Reference) → r .named < k → raised k r ≡ r
-keeps k r h = rw (lt-leb k (r .named) h, raised)
-
 module _ (k : ℕ) (s : List ℕ) (at : ℕ) (x : Text) where
   raised-reference : (r : Reference) → Stands s at (reference r) x → ReferenceTag (getD s at 0) → raisedText k s at x ≡ writeToken (raisedToken k (reference r)) []
   raised-reference r st o = by (order (r .named) k)
@@ -202,12 +195,12 @@ module _ (k : ℕ) (s : List ℕ) (at : ℕ) (x : Text) where
       named = ap (λ (u : Text). u .content) (st .tells)
 
       by : Order (r .named) k → raisedText k s at x ≡ writeToken (raisedToken k (reference r)) []
-      by (below h) = raised-low k s at x o (omega (arith, named)) ∙ whole s at x (reference r) st ∙ ap (λ (q : Reference). writeToken (reference q) []) (sym (keeps k r h))
+      by (below h) = raised-low k s at x o (omega (arith, named)) ∙ whole s at x (reference r) st ∙ ap (λ (q : Reference). writeToken (reference q) []) (sym (meanings.raised-low k r h))
       by (above h) =
           raised-high k s at x o (omega (arith, named))
           ∙ ap (λ (m : ℕ). numberedText s at m (x .next - 1) (x .next)) (add-one (x .content) ∙ ap suc named)
           ∙ tail-of s at x (tag (refKind (r .kind))) (r .spelling) (r .named) (suc (r .named)) 1 (59 ∷ []) (st .inside) (st .written) refl
-          ∙ ap (λ (q : Reference). writeToken (reference q) []) (sym (raises k r h))
+          ∙ ap (λ (q : Reference). writeToken (reference q) []) (sym (meanings.raised-high k r h))
 
   -- the first byte of what stands there is the token's
   first-of : (t : Token) → Stands s at t x → getD s at 0 ≡ tagged t (drop (x .next) s) .byte

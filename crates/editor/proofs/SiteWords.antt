@@ -9,7 +9,6 @@ use lib.Dec.{eqb}
 use lib.ListN.{length, getD, take, drop, length-append, length-drop, List·getD-append}
 use lib.Seq.{getD-append-add}
 use Rattle.format.specs.Bytes.{byte}
-use Rattle.format.specs.Kind.{Kind, tag}
 use Rattle.format.specs.Tree.{leaf, ref, branch, none, pair, count, nodes, TreePath, nodesIn, one, ordinals, ordinalsIn}
 use Rattle.format.specs.Syntax.{intKey, stringKey, array, Key, Container, Value, Values, own, writeKey, write, writePairs, print}
 use Rattle.format.specs.Keys.{hasKey}
@@ -219,9 +218,6 @@ module _ (v : Value) (t rest : List ℕ) (e : t ≡ flat (tableOf v) ++ rest) wh
 
     array-pairs : In (in-plan v node s a .offset) (suc node) (suc (in-plan v node s a .ordinal)) (s .pairs)
     array-pairs = record { rest = in-plan v node s a .rest; here = at-next (tableOf v) node _ _ (in-plan v node s a .rows) }
-
-    pub array-tag : wordAt t node 0 ≡ tag Kind.array
-    array-tag = array-word 0 (omega arith)
 
     pub array-count : wordAt t node 4 ≡ count (s .pairs)
     array-count = array-word 4 (omega arith)

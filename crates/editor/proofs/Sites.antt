@@ -1,5 +1,5 @@
 -- Where the array stands among a plan's tokens, and what inserting makes of them. Assumes nothing.
-use Prim.Native.Nat.{ℕ, zero, suc, _+_, _≤_}
+use Prim.Native.Nat.{ℕ, zero, suc, _+_}
 use native.Mathlib.Omega.{arith}
 use mathlib.Core.Path.{_≡_, refl, sym, ap, ap₂, _∙_}
 use mathlib.Core.List.{List, [], _∷_, _++_, map, map-append, append-assoc}
@@ -9,7 +9,7 @@ use Rattle.format.specs.Syntax.{array, Key, Scalar, Head, Value, Values}
 use Rattle.format.specs.Edit.{putPair, atPlace, atPath, raised, renumbered}
 use Rattle.format.proofs.Maps.{count-map}
 use Rattle.insertion.proofs.Located.{Locates, found, inside, LocatesIn, first, later}
-use Rattle.editor.specs.Tokens.{Token, scalar, reference, opening, closing, keyScalar, tokens, tokensIn, raisedToken, nodesOf, opened, closed}
+use Rattle.editor.specs.Tokens.{Token, scalar, opening, closing, keyScalar, tokens, tokensIn, raisedToken, nodesOf, opened, closed}
 use Rattle.editor.proofs.PairParts.{upto, after}
 
 -- ---- counts of tokens

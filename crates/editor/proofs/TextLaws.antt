@@ -2,16 +2,16 @@
 use Prim.Native.Nat.{ℕ, _+_, _≤_, _<_}
 use native.Mathlib.Omega.{arith}
 use mathlib.Core.Path.{_≡_, refl, sym, ap, _∙_, subst}
-use mathlib.Core.Bool.{Bool, true, false}
-use mathlib.Core.List.{List, [], _∷_, _++_}
+use mathlib.Core.Bool.{true, false}
+use mathlib.Core.List.{List, [], _∷_}
 use lib.ListN.{length, getD, take, drop, length-drop, drop-of-length-le}
 use lib.Seq.{drop-cons}
 use Rattle.format.specs.Bytes.{byte, bytes}
 use Rattle.format.specs.Kind.{Kind, scalarKinds, tag, mayBeKey}
-use Rattle.format.specs.Syntax.{null, bool, int, float, string, intKey, stringKey, Key, Quoted, Scalar, writeKey, writeScalar, writeNumber}
+use Rattle.format.specs.Syntax.{null, bool, int, float, string, intKey, stringKey, Key, Scalar, writeKey, writeScalar, writeNumber}
 use Rattle.format.specs.Fits.{KeyFits, ScalarFits}
 use Rattle.format.specs.Answer.{Answer, ok, _>>=_}
-use Rattle.format.specs.Read.{kindOf, tagOf, expect, intText, quotedText, boolText, floatText}
+use Rattle.format.specs.Read.{kindOf, expect, intText, quotedText, boolText, floatText}
 use Rattle.format.proofs.Answers.{ok-same, not-both, bind-ok}
 use Rattle.format.proofs.Texts.{tag-ok, expect-ok, int-ok, quoted-ok, bool-ok, float-ok}
 use Rattle.format.proofs.Fronts.{number-length, quoted-length}
@@ -20,9 +20,10 @@ use Rattle.scanner.specs.declared.Text.{Text}
 use Rattle.scanner.specs.declared.Scan.{Scan}
 use Rattle.scanner.specs.Scans.{scalarText, scalarBehind, scalarTold, Found, Scans}
 use Rattle.scanner.proofs.Numbers.{found-of, unfit-of}
-use Rattle.scanner.proofs.Printed.{scalarKind, behindTag, scalar-tagged, scalar-printed}
-use Rattle.keys.specs.KeyWords.{Held}
+use Rattle.scanner.proofs.Printed.{scalar-tagged, scalar-printed}
 use Rattle.keys.specs.declared.KeyWords.{KeyWords}
+use Rattle.editor.specs.Tokens.{keyScalar}
+use Rattle.editor.proofs.Passes.{differ}
 use Rattle.editor.specs.PairTexts.{IsScalar, Exact, IsKey, ExactKey, ArePair}
 
 -- ---- what was read of a scalar is what was written
@@ -113,24 +114,17 @@ module _ (s : List ℕ) where
 
 -- ---- keys
 
-abbrev scalarOfKey : Key → Scalar
-scalarOfKey (intKey x) = int x
-scalarOfKey (stringKey q) = string q
-
-key-scalar : (k : Key) (s : List ℕ) → KeyFits k → s ≡ writeKey k [] → ScalarFits (scalarOfKey k) × (s ≡ writeScalar (scalarOfKey k) [])
+key-scalar : (k : Key) (s : List ℕ) → KeyFits k → s ≡ writeKey k [] → ScalarFits (keyScalar k) × (s ≡ writeScalar (keyScalar k) [])
 key-scalar (intKey x) s f t = (f, t)
 key-scalar (stringKey q) s f t = (f, t)
 
 module _ (s : List ℕ) where
   pub no-key-empty : length s ≡ 0 → ExactKey s (Scan.Not 13)
-  no-key-empty e k f t = let q = key-scalar k s f t in none-empty s e (scalarOfKey k) (q .0) (q .1)
+  no-key-empty e k f t = let q = key-scalar k s f t in none-empty s e (keyScalar k) (q .0) (q .1)
 
   key-tag : (k : Key) → s ≡ writeKey k [] → mayBeKey (getD s 0 0) ≡ true
   key-tag (intKey x) t = ap (λ (u : List ℕ). mayBeKey (getD u 0 0)) t
   key-tag (stringKey q) t = ap (λ (u : List ℕ). mayBeKey (getD u 0 0)) t
-
-  differ : true ≡ false → ⊥
-  differ e = let z : _≡_ {A = ℕ} 0 1 = cc in omega arith
 
   pub no-key-tag : mayBeKey (getD s 0 0) ≡ false → ExactKey s (Scan.Not 13)
   no-key-tag e k f t = differ (sym (key-tag k t) ∙ e)
@@ -163,7 +157,7 @@ module _ (s : List ℕ) where
 
   pub exact-key : (r : Scan) → mayBeKey (getD s 0 0) ≡ true → Exact s r → ExactKey s r
   exact-key (Scan.Is x) m g = is-key x (g .scalar) m (g .written) (g .fits) (g .tells)
-  exact-key (Scan.Not c) m g = λ k f t. let q = key-scalar k s f t in g (scalarOfKey k) (q .0) (q .1)
+  exact-key (Scan.Not c) m g = λ k f t. let q = key-scalar k s f t in g (keyScalar k) (q .0) (q .1)
 
 pub key-some : (s : List ℕ) {w : KeyWords} → IsKey s w → 0 < length s
 key-some s g = go (g .key) (g .written)

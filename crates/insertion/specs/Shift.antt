@@ -1,5 +1,5 @@
 -- What inserting does to a plan's meaning: "names the value it named before".
-use mathlib.Core.List.{List, [], _∷_}
+use mathlib.Core.List.{[], _∷_}
 use mathlib.Core.Bool.{true, false}
 use Prim.Native.Nat.{ℕ, suc}
 use lib.Dec.{leb, eqb}

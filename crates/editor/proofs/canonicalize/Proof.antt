@@ -1,6 +1,5 @@
 -- `editor::canonicalize` meets its contract. Assumes nothing.
 use lib.Seq.{length-take-le}
-use lib.ListN.{length}
 use mathlib.Core.Path.{sym, _∙_, subst}
 use borrow.Author.Tests.{not-true, not-false}
 use Rattle.format.proofs.Results.{after-refused}

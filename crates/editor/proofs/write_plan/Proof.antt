@@ -1,5 +1,4 @@
 -- `editor::write_plan` meets its contract. Assumes nothing.
-use native.Mathlib.Omega.{arith}
 use lib.Seq.{length-take-le}
 use mathlib.Core.Path.{sym, _∙_}
 use borrow.Author.Tests.{not-true, not-false}

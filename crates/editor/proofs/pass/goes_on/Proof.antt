@@ -1,7 +1,7 @@
 -- `editor::pass::goes_on` meets its contract. Assumes nothing.
 use Rattle.bytes_at.specs.ByteAt.{byteAt}
 use Rattle.editor.proofs.Passes as passes
-use mathlib.Core.Path.{sym, _∙_}
+use mathlib.Core.Path.{_∙_}
 use native.Mathlib.Omega.{arith}
 use borrow.Author.Needs.{needs}
 use Rattle.editor.proofs.pass.goes_on.Statement.{statement}

@@ -1,7 +1,6 @@
 -- `editor::placing::find_gap` meets its contract. Assumes nothing.
 use mathlib.Core.Path.{refl}
 use Rattle.editor.proofs.Gaps as gaps
-use borrow.Author.Needs.{needs}
 use Rattle.editor.proofs.placing.find_gap.Statement.{statement}
 use Rattle.editor.proofs.placing.find_gap.Tie as tie
 

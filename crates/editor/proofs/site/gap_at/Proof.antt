@@ -1,9 +1,7 @@
 -- `editor::site::gap_at` meets its contract. Assumes nothing.
 use native.Mathlib.Omega.{arith}
-use mathlib.Core.Path.{refl, sym, ap, _∙_}
+use mathlib.Core.Path.{ap}
 use Prim.Native.Nat.{_+_, _-_}
-use Rattle.editor.specs.Words.{carriers}
-use borrow.Author.Needs.{needs}
 use Rattle.editor.proofs.site.gap_at.Statement.{statement}
 use Rattle.editor.proofs.site.gap_at.Tie as tie
 

@@ -1,6 +1,5 @@
 -- `editor::texts::exact` meets its contract. Assumes nothing.
-use native.Mathlib.Omega.{arith}
-use mathlib.Core.Path.{sym, _∙_, subst}
+use mathlib.Core.Path.{sym, subst}
 use Rattle.editor.specs.PairTexts.{Exact}
 use Rattle.editor.proofs.TextLaws as laws
 use borrow.Author.Needs.{needs}

@@ -1,6 +1,5 @@
 -- `editor::texts::exact_key` meets its contract. Assumes nothing.
-use native.Mathlib.Omega.{arith}
-use mathlib.Core.Path.{sym, _∙_, subst}
+use mathlib.Core.Path.{sym, _∙_}
 use borrow.Author.Tests.{not-true, not-false}
 use Rattle.editor.proofs.TextLaws as laws
 use borrow.Author.Needs.{needs}

@@ -1,6 +1,6 @@
 -- `editor::texts::pair_texts` meets its contract. Assumes nothing.
 use native.Mathlib.Omega.{arith}
-use mathlib.Core.Path.{sym, _∙_, subst}
+use mathlib.Core.Path.{subst}
 use Rattle.editor.specs.PairTexts.{Exact, ExactKey}
 use Rattle.editor.proofs.TextLaws as laws
 use borrow.Author.Needs.{needs}

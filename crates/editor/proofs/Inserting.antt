@@ -1,0 +1,73 @@
+-- THE THEOREMS OF INSERTING AS A SERVICE, over the definitions that `insert` equals. Assumes nothing.
+use Prim.Native.Nat.{ℕ, suc, _+_, _/_}
+use mathlib.Core.Path.{_≡_, refl, sym, ap, ap₂, _∙_}
+use mathlib.Core.List.{List, [], _∷_, _++_, map, append-assoc}
+use Rattle.format.specs.Tree.{count, nodes, ordinals}
+use Rattle.format.specs.Syntax.{Head, own}
+use Rattle.format.specs.Answer.{ok}
+use Rattle.format.specs.Read.{read}
+use Rattle.format.specs.Table.{width}
+use Rattle.format.specs.Reading.{capacityOf, answer, tableAfter}
+use Rattle.format.specs.Edit.{countShortest, newOrdinal, insert}
+use Rattle.format.specs.Writing.{insertBytes}
+use Rattle.format.proofs.Results.{after-length}
+use Rattle.format.proofs.Unique.{accepted-exactly}
+use Rattle.insertion.proofs.Inserting.{Inserted, inserted}
+use Rattle.insertion.proofs.Located.{locates}
+use Rattle.editor.specs.Tokens.{Token, scalar, opening, closing, keyScalar, tokens, tokensIn, writeTokens, raisedToken, nodesOf}
+use Rattle.editor.proofs.TokenLaws.{tokens-write}
+use Rattle.editor.proofs.PairParts.{upto, after}
+use Rattle.editor.proofs.Sites.{site-tokens, parts}
+use Rattle.editor.proofs.Gaps.{new-tokens}
+
+-- "All other bytes are the old ones": the tokens of the plan given and of the bytes written. The head is that of the array asked for, and `middle` are its pairs before the place
+pub record Kept {capacity room : ℕ} {source : List ℕ} {node place : ℕ} {key value bytes : List ℕ} (i : Inserted capacity room source node place key value bytes) : Type 0 where
+  pub front : List Token
+  pub head : Head
+  pub middle : List Token
+  pub back : List Token
+  pub old-bytes : source ≡ writeTokens (front ++ (opening head (count (i .site .pairs)) ∷ middle ++ back)) []
+  pub new-bytes : bytes ≡ writeTokens (map (raisedToken (newOrdinal (i .site .path) place (i .old))) front
+      ++ (opening (countShortest head) (suc (count (i .site .pairs)))
+      ∷ map (raisedToken (newOrdinal (i .site .path) place (i .old))) middle
+      ++ (scalar (keyScalar (i .k)) ∷ scalar (i .x) ∷ map (raisedToken (newOrdinal (i .site .path) place (i .old))) back))) []
+  pub before : nodesOf front ≡ node
+  pub pairs : middle ≡ tokensIn (upto place (i .site .pairs))
+
+-- DEMAND 3, "Inserting a pair gives a plan that, read afresh, means the old one with that pair at that place, every old reference still naming the value it named. All other bytes are the old ones."
+pub record Preserved (room : ℕ) (t source : List ℕ) (node place : ℕ) (key value bytes : List ℕ) : Type 0 where
+  -- the bytes are an accepted plan, with that meaning and those numbers
+  pub plan : Inserted (capacityOf t) room source node place key value bytes
+  -- "the old ones with three changes"
+  pub bytes-kept : Kept plan
+  -- "Fresh reading, into the table that reading the old plan left, returns two nodes and one number more."
+  pub fresh : answer (capacityOf (tableAfter source t)) bytes ≡ ok (record { nodes = nodes (plan .old) + 2; ordinals = suc (ordinals own (plan .old)) })
+
+kept : {capacity room : ℕ} {source : List ℕ} {node place : ℕ} {key value bytes : List ℕ} (i : Inserted capacity room source node place key value bytes) → Kept i
+kept {node = node} {place} i =
+    let st = site-tokens (locates (i .old) node (i .site) (i .at)) in
+    record {
+      front = st .front;
+      head = st .head;
+      middle = tokensIn (upto place (i .site .pairs));
+      back = tokensIn (after place (i .site .pairs)) ++ (closing ∷ st .back);
+      old-bytes = i .was .printed ∙ sym (tokens-write (i .old) []) ∙ ap (λ (l : List Token). writeTokens l []) (st .split
+          ∙ ap (λ (l : List Token). st .front ++ (opening (st .head) (count (i .site .pairs)) ∷ l))
+          (ap (λ (l : List Token). l ++ (closing ∷ st .back)) (parts place (i .site .pairs)) ∙ append-assoc (tokensIn (upto place (i .site .pairs))) (tokensIn (after place (i .site .pairs))) (closing ∷ st .back)));
+      new-bytes = i .text ∙ sym (tokens-write (insert (i .site .path) place (i .k) (i .x) (i .old)) [])
+          ∙ ap (λ (l : List Token). writeTokens l []) (new-tokens (i .old) node (i .site) (i .at) place (i .k) (i .x));
+      before = st .nodes;
+      pairs = refl;
+    }
+
+pub demand-3 : (room : ℕ) (t source : List ℕ) (node place : ℕ) (key value bytes : List ℕ) → insertBytes (capacityOf t) room source node place key value ≡ ok bytes → Preserved room t source node place key value bytes
+unfolding answer
+demand-3 room t source node place key value bytes e =
+    let i = inserted (capacityOf t) room source node place key value bytes e in
+    let same : capacityOf (tableAfter source t) ≡ capacityOf t = ap (λ (n : ℕ). n / width) (after-length source t) in
+    record {
+      plan = i;
+      bytes-kept = kept i;
+      fresh = ap (λ (c : ℕ). answer c bytes) same ∙ rw (accepted-exactly (capacityOf t) bytes _ .1 (i .plan))
+          (ap₂ (λ (a b : ℕ). ok (record { nodes = a; ordinals = b })) (i .nodes-more) (i .ordinals-more));
+    }
