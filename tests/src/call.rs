@@ -7,10 +7,11 @@ use std::fmt;
 pub enum Service {
     Read,
     Canonicalize,
+    Insert,
 }
 
 impl Service {
-    pub const ALL: [Service; 2] = [Service::Read, Service::Canonicalize];
+    pub const ALL: [Service; 3] = [Service::Read, Service::Canonicalize, Service::Insert];
 }
 
 impl fmt::Display for Service {
@@ -18,14 +19,65 @@ impl fmt::Display for Service {
         out.write_str(match self {
             Service::Read => "ton_read",
             Service::Canonicalize => "ton_canonicalize",
+            Service::Insert => "ton_insert",
         })
     }
 }
 
-/// A service and the sizes of the memory lent to it besides the source.
+/// The texts that a call reads: a plan and, for inserting alone, those of a key and a value.
+#[derive(Clone, Copy, Debug, Default, PartialEq, Eq)]
+pub struct Texts<T> {
+    pub source: T,
+    pub key: T,
+    pub value: T,
+}
+
+/// The texts as a call gets them.
+pub type Lent<'a> = Texts<&'a [u8]>;
+
+impl<T> Texts<T> {
+    pub fn map<'a, U>(&'a self, each: impl Fn(&'a T) -> U) -> Texts<U> {
+        Texts {
+            source: each(&self.source),
+            key: each(&self.key),
+            value: each(&self.value),
+        }
+    }
+}
+
+impl<'a> Texts<&'a [u8]> {
+    /// A plan alone.
+    pub fn plan(source: &'a [u8]) -> Self {
+        Texts {
+            source,
+            ..Texts::default()
+        }
+    }
+
+    pub fn kept(&self) -> Texts<Vec<u8>> {
+        self.map(|text| text.to_vec())
+    }
+}
+
+impl Texts<Vec<u8>> {
+    pub fn lent(&self) -> Lent<'_> {
+        self.map(Vec::as_slice)
+    }
+}
+
+/// Where inserting puts its pair.
+#[derive(Clone, Copy, Debug, Default, PartialEq, Eq)]
+pub struct Place {
+    pub array_node: usize,
+    pub pair_index: usize,
+}
+
+/// A service, and what is asked of it and lent to it besides the texts.
 #[derive(Clone, Copy, Debug)]
 pub struct Call {
     pub service: Service,
+    /// For inserting alone.
+    pub place: Place,
     /// In words.
     pub table_len: usize,
     /// In bytes; 0 for reading, to which no output is lent.
@@ -36,6 +88,7 @@ impl Call {
     pub fn read(table_len: usize) -> Self {
         Call {
             service: Service::Read,
+            place: Place::default(),
             table_len,
             out_len: 0,
         }
@@ -44,6 +97,16 @@ impl Call {
     pub fn canonicalize(table_len: usize, out_len: usize) -> Self {
         Call {
             service: Service::Canonicalize,
+            place: Place::default(),
+            table_len,
+            out_len,
+        }
+    }
+
+    pub fn insert(place: Place, table_len: usize, out_len: usize) -> Self {
+        Call {
+            service: Service::Insert,
+            place,
             table_len,
             out_len,
         }
@@ -71,6 +134,14 @@ impl Reply {
         match self {
             Reply::Reading(reading) => reading.at,
             Reply::Writing(writing) => writing.at,
+        }
+    }
+
+    /// Bytes written; 0 for reading.
+    pub fn length(self) -> u64 {
+        match self {
+            Reply::Reading(_) => 0,
+            Reply::Writing(writing) => writing.length,
         }
     }
 }

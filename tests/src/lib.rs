@@ -1,14 +1,15 @@
-//! The independent test side of Tonschnecke's reading and retyping.
+//! The independent test side of Tonschnecke's reading, retyping and inserting.
 //!
 //! `model` answers in another style than the library does, `library` calls the archive under test,
 //! `sides` gives them one form, `compare` makes the same call on both and looks at every word and
-//! byte. `cases` holds what the paper states by hand; `generate` and `enumerate` make the plans
-//! nobody thought of. `bench` is for the benchmark alone.
+//! byte. `cases` holds what the paper states by hand; `generate` and `enumerate` make the plans and
+//! insertions nobody thought of. `bench` is for the benchmark alone.
 
 pub mod bench;
 pub mod call;
 pub mod campaign;
 pub mod cases;
+pub mod circumstances;
 pub mod compare;
 pub mod enumerate;
 pub mod generate;

@@ -2,6 +2,8 @@
 
 #![allow(unsafe_code)]
 
+use crate::call::{Lent, Place};
+
 /// What the library's reading returns. Code 0: accepted.
 #[repr(C)]
 #[derive(Clone, Copy, Debug, PartialEq, Eq)]
@@ -33,6 +35,21 @@ extern "C" {
         out: *mut u8,
         out_len: usize,
     ) -> Writing;
+
+    fn ton_insert(
+        source: *const u8,
+        source_len: usize,
+        array_node: usize,
+        pair_index: usize,
+        key: *const u8,
+        key_len: usize,
+        value: *const u8,
+        value_len: usize,
+        table: *mut u64,
+        table_len: usize,
+        out: *mut u8,
+        out_len: usize,
+    ) -> Writing;
 }
 
 /// Has the library read `source` into `table`.
@@ -57,6 +74,27 @@ pub fn canonicalize(source: &[u8], table: &mut [u64], out: &mut [u8]) -> Writing
         ton_canonicalize(
             source.as_ptr(),
             source.len(),
+            table.as_mut_ptr(),
+            table.len(),
+            out.as_mut_ptr(),
+            out.len(),
+        )
+    }
+}
+
+/// Has the library write the plan to `out` with the pair put in at its place.
+pub fn insert(texts: Lent, place: Place, table: &mut [u64], out: &mut [u8]) -> Writing {
+    // SAFETY: as above.
+    unsafe {
+        ton_insert(
+            texts.source.as_ptr(),
+            texts.source.len(),
+            place.array_node,
+            place.pair_index,
+            texts.key.as_ptr(),
+            texts.key.len(),
+            texts.value.as_ptr(),
+            texts.value.len(),
             table.as_mut_ptr(),
             table.len(),
             out.as_mut_ptr(),

@@ -1,8 +1,9 @@
-//! Memory as it is lent: a table and an output between guards, a source of exact size or one that
-//! stands among bytes which would continue it.
+//! Memory as it is lent: a table and an output between guards, texts of exact size or ones that
+//! stand among bytes which would continue them.
 
-use crate::call::Call;
+use crate::call::{Call, Texts};
 use std::hint::black_box;
+use std::ops::Range;
 
 /// Guard words or bytes before and after what is lent.
 const GUARD: usize = 16;
@@ -84,12 +85,13 @@ impl Memory {
     }
 }
 
-/// How the source stands in memory.
+/// How the texts that a call reads stand in memory.
 #[derive(Clone, Copy, Debug)]
 pub enum Setting {
-    /// In an allocation of exactly its size, so that memory checkers see any byte read beyond it.
+    /// Each in an allocation of exactly its size, so that memory checkers see any byte read beyond
+    /// it.
     Alone,
-    /// Among bytes that continue it, so that reading past its length changes the answer.
+    /// Among bytes that continue them, so that reading past their length changes the answer.
     Surrounded,
 }
 
@@ -97,28 +99,55 @@ impl Setting {
     pub const ALL: [Setting; 2] = [Setting::Alone, Setting::Surrounded];
 }
 
-/// Has `call` see the source in this setting; also tells whether it left the source's memory as it
-/// was.
-pub fn with_source<T>(source: &[u8], setting: Setting, call: impl FnOnce(&[u8]) -> T) -> (T, bool) {
-    let (before, after): (&[u8], &[u8]) = match setting {
-        Setting::Alone => (b"", b""),
-        Setting::Surrounded => (b"a:1:{i:0;", continuation(source)),
-    };
-    let whole = [before, source, after].concat().into_boxed_slice();
-    let copy = whole.clone();
-    let stretch = before.len()..before.len() + source.len();
-    let returned = call(black_box(&whole[stretch]));
-    // The compiler must not conclude that nothing behind these borrows can have changed.
-    (returned, *black_box(&whole) == copy)
+/// A text that a call reads, as it stands in memory.
+pub struct Input {
+    whole: Box<[u8]>,
+    copy: Box<[u8]>,
+    text: Range<usize>,
 }
 
-/// Bytes that may well complete a source that ends too soon.
-fn continuation(source: &[u8]) -> &'static [u8] {
-    match source.last() {
+impl Input {
+    pub fn new(text: &[u8], setting: Setting) -> Self {
+        let (before, after): (&[u8], &[u8]) = match setting {
+            Setting::Alone => (b"", b""),
+            Setting::Surrounded => (b"a:1:{i:0;", continuation(text)),
+        };
+        let whole = [before, text, after].concat().into_boxed_slice();
+        Input {
+            copy: whole.clone(),
+            whole,
+            text: before.len()..before.len() + text.len(),
+        }
+    }
+
+    /// What is lent.
+    pub fn lent(&self) -> &[u8] {
+        black_box(&self.whole[self.text.clone()])
+    }
+
+    /// Whether its memory was left as it was. The compiler must not conclude that nothing behind
+    /// these borrows can have changed.
+    pub fn unchanged(&self) -> bool {
+        *black_box(&self.whole) == self.copy
+    }
+}
+
+impl Texts<Input> {
+    pub fn unchanged(&self) -> bool {
+        [&self.source, &self.key, &self.value]
+            .into_iter()
+            .all(Input::unchanged)
+    }
+}
+
+/// Bytes that may well complete a text that ends too soon.
+fn continuation(text: &[u8]) -> &'static [u8] {
+    match text.last() {
         Some(b'0'..=b'9') => b";}}}}",
         Some(b';' | b'{') => b"}}}}}",
         Some(b':') => b"0;}}}",
         Some(b'"') => b";N;}}",
-        _ => b"\";};}",
+        Some(_) => b"\";};}",
+        None => b"i:7;}",
     }
 }

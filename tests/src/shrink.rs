@@ -1,14 +1,30 @@
-//! Makes a failing plan shorter by deleting bytes, greedily.
+//! Makes failing texts shorter by deleting bytes, greedily.
 
+use crate::call::{Lent, Texts};
 use std::time::{Duration, Instant};
 
 /// Time after which the shrinking stops with what it has.
 const PATIENCE: Duration = Duration::from_secs(10);
 
-/// The shortest source found that still `fails`, starting from one that does.
-pub fn shrink(source: &[u8], fails: impl Fn(&[u8]) -> bool) -> Vec<u8> {
+/// The shortest texts found that still fail, starting from ones that do: first the plan, then what
+/// is put into it.
+pub fn shrink(texts: Lent, fails: impl Fn(Lent) -> bool) -> Texts<Vec<u8>> {
+    let source = &shorter(texts.source, |source| fails(Texts { source, ..texts }))[..];
+    let key = &shorter(texts.key, |key| {
+        fails(Texts {
+            source,
+            key,
+            ..texts
+        })
+    })[..];
+    let value = &shorter(texts.value, |value| fails(Texts { source, key, value }))[..];
+    Texts { source, key, value }.kept()
+}
+
+/// The same for one of the texts.
+fn shorter(text: &[u8], fails: impl Fn(&[u8]) -> bool) -> Vec<u8> {
     let deadline = Instant::now() + PATIENCE;
-    let mut best = source.to_vec();
+    let mut best = text.to_vec();
     let mut chunk = best.len().div_ceil(2);
     while chunk > 0 && Instant::now() < deadline {
         let before = best.len();

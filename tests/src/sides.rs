@@ -1,45 +1,56 @@
 //! Those that answer a call, in one form: each returns its reply and leaves its traces in memory.
 
 use crate::bench::peer;
-use crate::call::{Call, Reply, Service};
+use crate::call::{Call, Lent, Place, Reply, Service};
 use crate::library::{self, Reading, Writing};
 use crate::memory::Memory;
 use crate::model::{self, Answer, Refusal, Table, Written, WORDS};
 
+/// One that answers.
+pub type Side = fn(Lent, Call, &mut Memory) -> Reply;
+
 /// The archive under test.
-pub fn library(source: &[u8], call: Call, memory: &mut Memory) -> Reply {
-    over_slices((library::read, library::canonicalize), source, call, memory)
+pub fn library(texts: Lent, call: Call, memory: &mut Memory) -> Reply {
+    let functions = (library::read, library::canonicalize, library::insert);
+    over_slices(functions, texts, call, memory)
 }
 
 /// The benchmark's peer.
-pub fn peer(source: &[u8], call: Call, memory: &mut Memory) -> Reply {
-    over_slices((peer::read, peer::canonicalize), source, call, memory)
+pub fn peer(texts: Lent, call: Call, memory: &mut Memory) -> Reply {
+    let functions = (peer::read, peer::canonicalize, peer::insert);
+    over_slices(functions, texts, call, memory)
 }
 
-/// Has the one of two functions that the call is for write to memory itself.
+/// Has the one of three functions that the call is for write to memory itself.
 fn over_slices(
-    (read, canonicalize): (
+    (read, canonicalize, insert): (
         impl Fn(&[u8], &mut [u64]) -> Reading,
         impl Fn(&[u8], &mut [u64], &mut [u8]) -> Writing,
+        impl Fn(Lent, Place, &mut [u64], &mut [u8]) -> Writing,
     ),
-    source: &[u8],
+    texts: Lent,
     call: Call,
     memory: &mut Memory,
 ) -> Reply {
-    let table = memory.table.lent();
+    let (table, output) = (memory.table.lent(), memory.output.lent());
     match call.service {
-        Service::Read => Reply::Reading(read(source, table)),
-        Service::Canonicalize => Reply::Writing(canonicalize(source, table, memory.output.lent())),
+        Service::Read => Reply::Reading(read(texts.source, table)),
+        Service::Canonicalize => Reply::Writing(canonicalize(texts.source, table, output)),
+        Service::Insert => Reply::Writing(insert(texts, call.place, table, output)),
     }
 }
 
 /// The model, whose answer is put into memory as the paper says.
-pub fn model(source: &[u8], call: Call, memory: &mut Memory) -> Reply {
+pub fn model(texts: Lent, call: Call, memory: &mut Memory) -> Reply {
     let capacity = call.table_len / WORDS;
     let reply = match call.service {
-        Service::Read => reading(model::read(source, capacity), memory),
+        Service::Read => reading(model::read(texts.source, capacity), memory),
         Service::Canonicalize => {
-            let written = model::canonicalize(source, capacity, call.out_len);
+            let written = model::canonicalize(texts.source, capacity, call.out_len);
+            writing(written, memory)
+        }
+        Service::Insert => {
+            let written = model::insert(texts, call.place, capacity, call.out_len);
             writing(written, memory)
         }
     };

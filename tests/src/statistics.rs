@@ -1,11 +1,14 @@
 //! What a run has reached: counted, printed, and judged.
 
 mod calls;
+mod insertions;
 mod plans;
 
 use crate::call::{Reply, Service};
+use crate::circumstances::Met;
 use crate::model::Survey;
 use calls::Calls;
+use insertions::Insertions;
 use plans::Plans;
 use std::fmt;
 
@@ -15,6 +18,7 @@ pub struct Statistics {
     plans: Plans,
     /// By service, in the order of `Service::ALL`.
     calls: [Calls; Service::ALL.len()],
+    insertions: Insertions,
 }
 
 /// One line of the printed table.
@@ -59,6 +63,11 @@ impl Statistics {
         self.calls[service as usize].count(reply);
     }
 
+    /// Counts what one of those calls was like, if it was for inserting.
+    pub fn count_insertion(&mut self, met: &Met) {
+        self.insertions.count(met);
+    }
+
     /// What should have been reached and was not.
     pub fn missing(&self) -> Vec<String> {
         let unmet = |line: &Line| line.needed && line.count == 0;
@@ -69,7 +78,9 @@ impl Statistics {
     fn lines(&self) -> Vec<Line> {
         let calls = Service::ALL.into_iter().zip(&self.calls);
         let of_calls = calls.flat_map(|(service, calls)| calls.lines(service));
-        self.plans.lines().into_iter().chain(of_calls).collect()
+        let of_plans = self.plans.lines().into_iter();
+        let lines = of_plans.chain(of_calls);
+        lines.chain(self.insertions.lines()).collect()
     }
 }
 
@@ -81,11 +92,11 @@ pub struct Report<'a> {
 
 impl fmt::Display for Report<'_> {
     fn fmt(&self, out: &mut fmt::Formatter<'_>) -> fmt::Result {
-        writeln!(out, "{:<40}{:>12}{:>12}", "", "generated", "enumerated")?;
+        writeln!(out, "{:<56}{:>12}{:>12}", "", "generated", "enumerated")?;
         let enumerated = self.enumerated.lines().into_iter();
         for (generated, enumerated) in self.generated.lines().into_iter().zip(enumerated) {
             let Line { name, count, .. } = generated;
-            writeln!(out, "{name:<40}{count:>12}{:>12}", enumerated.count)?;
+            writeln!(out, "{name:<56}{count:>12}{:>12}", enumerated.count)?;
         }
         Ok(())
     }

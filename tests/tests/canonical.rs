@@ -10,7 +10,7 @@ use tonschnecke_tests::random::Random;
 fn for_accepted_plans(check: impl Fn(&[u8], &Survey)) {
     let mut random = Random::new(1);
     let generated = (0..20_000).map(|_| generate::valid(&mut random));
-    let by_hand = cases::all().into_iter().map(|case| case.source);
+    let by_hand = cases::all().into_iter().map(|case| case.texts.source);
     for plan in generated.chain(by_hand) {
         let survey = model::survey(&plan, usize::MAX);
         if survey.answer.is_ok() {

@@ -1,6 +1,6 @@
 //! The generator keeps what its parts promise, so that the plans are what they are counted as.
 
-use tonschnecke_tests::generate;
+use tonschnecke_tests::generate::{self, Insertion};
 use tonschnecke_tests::model;
 use tonschnecke_tests::random::Random;
 
@@ -36,4 +36,33 @@ fn padded_plans_reach_the_limit_of_length() {
         .any(|plan| model::read(plan, usize::MAX).is_ok());
     assert!(accepted_at_limit);
     assert!(plans.iter().any(|plan| plan.len() == 65_537));
+}
+
+/// The insertions that a seed gives for the first plans with arrays.
+fn insertions(seed: u64) -> Vec<(Vec<u8>, Insertion)> {
+    let mut random = Random::new(seed);
+    let mut insertions = Vec::new();
+    while insertions.len() < 2_000 {
+        let plan = generate::valid(&mut random);
+        let survey = model::survey(&plan, usize::MAX);
+        if survey.has_array() {
+            let insertion = generate::insertion(&mut random, &plan, &survey);
+            insertions.push((plan, insertion));
+        }
+    }
+    insertions
+}
+
+#[test]
+fn most_insertions_are_accepted() {
+    let accepted = |(plan, insertion): &&(Vec<u8>, Insertion)| {
+        model::bytes_to_write(insertion.texts(plan), insertion.place).is_ok()
+    };
+    assert!(insertions(1).iter().filter(accepted).count() > 1_200);
+}
+
+#[test]
+fn a_seed_repeats_its_insertions() {
+    assert_eq!(insertions(7), insertions(7));
+    assert_ne!(insertions(7), insertions(8));
 }

@@ -1,6 +1,6 @@
 //! The library against the cases written by hand, and what it does to the lent memory.
 
-use tonschnecke_tests::call::Call;
+use tonschnecke_tests::call::{Call, Place, Texts};
 use tonschnecke_tests::cases;
 use tonschnecke_tests::compare;
 use tonschnecke_tests::library::{self, Writing};
@@ -11,6 +11,20 @@ use tonschnecke_tests::sides;
 /// Cells that hold their patterns.
 fn patterned<T: Cell>(length: usize) -> Vec<T> {
     (0..length).map(T::pattern).collect()
+}
+
+/// Puts `i:59;` and `d:2;` into an empty array: at place 1, which there is not, or at 0.
+fn insert(pair_index: usize, table: &mut [u64], output: &mut [u8]) -> Writing {
+    let texts = Texts {
+        source: "a:00:{}",
+        key: "i:59;",
+        value: "d:2;",
+    };
+    let place = Place {
+        array_node: 0,
+        pair_index,
+    };
+    library::insert(texts.map(|text| text.as_bytes()), place, table, output)
 }
 
 #[test]
@@ -27,8 +41,8 @@ fn every_case_leaves_the_memory_as_the_model_says() {
                 ..case.call
             };
             for setting in Setting::ALL {
-                if let Err(mismatch) = compare::both(&case.source, call, setting) {
-                    panic!("{}\n{mismatch}", case.source.escape_ascii());
+                if let Err(mismatch) = compare::both(case.texts.lent(), call, setting) {
+                    panic!("{case}\n{mismatch}");
                 }
             }
         }
@@ -46,6 +60,12 @@ fn a_refusal_makes_every_lent_word_zero() {
         let mut table = patterned(length);
         library::canonicalize(b"s:05:\"basin\";", &mut table, &mut [0; 11]);
         assert_eq!(table, vec![0; length]);
+        // 12, and 7 or 14: the output is one byte too small.
+        for pair_index in [1, 0] {
+            let mut table = patterned(length);
+            insert(pair_index, &mut table, &mut [0; 14]);
+            assert_eq!(table, vec![0; length]);
+        }
     }
 }
 
@@ -64,6 +84,17 @@ fn an_acceptance_keeps_the_words_after_the_last_node() {
         library::canonicalize(b"s:0005:\"basin\";", &mut table, &mut [0; 12]);
         keeps(&table);
     }
+    for length in 3 * WORDS..60 {
+        let mut table = patterned(length);
+        insert(0, &mut table, &mut [0; 15]);
+        let rows = [
+            [97, 1, 0, 0, 1, 3],
+            [105, 0, 59, 0, 0, 2],
+            [100, 2, 12, 1, 0, 3],
+        ];
+        assert_eq!(table[..3 * WORDS], *rows.as_flattened());
+        assert_eq!(table[3 * WORDS..], patterned(length)[3 * WORDS..]);
+    }
 }
 
 /// "Any lent output past the written part keeps what it held"; a refusal "writes nothing to the
@@ -73,17 +104,28 @@ fn the_output_keeps_what_is_not_written() {
     for length in 0..20 {
         let mut output = patterned(length);
         let given = library::canonicalize(b"i:+0050;", &mut [0; WORDS], &mut output);
-        let (written, code) = match length {
-            0..5 => (0, 14),
-            _ => (5, 0),
-        };
-        let expected = Writing {
-            code,
-            at: 0,
-            length: written as u64,
-        };
-        assert_eq!(given, expected);
-        assert_eq!(output[..written], b"i:50;"[..written]);
-        assert_eq!(output[written..], patterned(length)[written..]);
+        holds(given, &output, b"i:50;");
+        let mut output = patterned(length);
+        let given = insert(0, &mut [0; 3 * WORDS], &mut output);
+        holds(given, &output, b"a:1:{i:59;d:2;}");
+        let mut output = patterned(length);
+        insert(1, &mut [0; 3 * WORDS], &mut output);
+        assert_eq!(output, patterned(length));
     }
+}
+
+/// The text in an output that it fits into, else 14; the rest as it was.
+fn holds(given: Writing, output: &[u8], text: &[u8]) {
+    let (written, code) = match output.len() >= text.len() {
+        true => (text.len(), 0),
+        false => (0, 14),
+    };
+    let expected = Writing {
+        code,
+        at: 0,
+        length: written as u64,
+    };
+    assert_eq!(given, expected);
+    assert_eq!(output[..written], text[..written]);
+    assert_eq!(output[written..], patterned(output.len())[written..]);
 }

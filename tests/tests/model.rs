@@ -1,5 +1,6 @@
 //! The model against what the paper says, written by hand.
 
+use tonschnecke_tests::call::{Place, Texts};
 use tonschnecke_tests::cases;
 use tonschnecke_tests::model::{self, Row};
 use tonschnecke_tests::sides;
@@ -55,6 +56,34 @@ fn retyping_leaves_the_table_of_the_text_written() {
             [100, 2, 17, 6, 0, 3],
             [105, 0, 1, 0, 0, 4],
             [79, 3, 33, 1, 0, 5],
+        ]
+    );
+}
+
+/// "the table that reading the plan given [...] and then the plan written leaves"
+#[test]
+fn inserting_leaves_the_table_of_the_plan_written() {
+    let texts = Texts {
+        source: "a:02:{s:0003:\"air\";d:12.50;i:+01;R:02;}",
+        key: "s:02:\"ab\";",
+        value: "s:1:\"c\";",
+    };
+    let texts = texts.map(|text| text.as_bytes());
+    let written = model::insert(texts, Place::default(), 7, 100).expect("accepted");
+    let text = b"a:3:{s:02:\"ab\";s:1:\"c\";s:0003:\"air\";d:12.50;i:+01;R:3;}";
+    assert_eq!(written.text, text);
+    assert_eq!(written.before.rows.len(), 5);
+    assert_eq!(written.after.ordinals, 3);
+    assert_eq!(
+        written.after.rows,
+        [
+            [97, 1, 0, 0, 3, 7],
+            [115, 0, 11, 2, 0, 2],
+            [115, 2, 20, 1, 0, 3],
+            [115, 0, 31, 3, 0, 4],
+            [100, 3, 38, 5, 0, 5],
+            [105, 0, 1, 0, 0, 6],
+            [82, 0, 3, 0, 4, 7],
         ]
     );
 }

@@ -1,14 +1,17 @@
-//! The peer: a plain reader and retyper of the same contract, as one would write it by hand. It
-//! reads in one pass, finds the node of an ordinal in a list and equal keys by hash sets. It proves
-//! nothing.
+//! The peer: a plain reader, retyper and inserter of the same contract, as one would write it by
+//! hand. It reads in one pass, finds the node of an ordinal in a list and equal keys by hash sets.
+//! It proves nothing.
 
-mod keys;
 mod canonicalize;
+mod digits;
+mod insert;
+mod keys;
 mod text;
 
 pub use canonicalize::canonicalize;
+pub use insert::insert;
 
-use crate::library::Reading;
+use crate::library::{Reading, Writing};
 use keys::Keys;
 
 const SOURCE_LIMIT: usize = 65_536;
@@ -32,23 +35,29 @@ pub struct Content {
     link: u64,
 }
 
-pub struct Reader<'a> {
+/// What is wanted of a plan besides its table.
+pub trait Trace {
+    /// The next node's tag stands at `start`.
+    fn node(&mut self, _start: usize) {}
+    /// The container at `node` is at this depth, and its `}` stands at `close`.
+    fn container(&mut self, _node: usize, _depth: usize, _close: usize) {}
+}
+
+/// Nothing.
+impl Trace for () {}
+
+pub struct Reader<'a, T> {
     source: &'a [u8],
     table: &'a mut [u64],
     at: usize,
     nodes: usize,
     /// The node that carries each ordinal; ordinals count from 1.
     carriers: Vec<usize>,
+    trace: T,
 }
 
 pub fn read(source: &[u8], table: &mut [u64]) -> Reading {
-    let mut reader = Reader {
-        source,
-        table,
-        at: 0,
-        nodes: 0,
-        carriers: Vec::new(),
-    };
+    let mut reader = Reader::new(source, table, ());
     match reader.plan() {
         Ok(()) => Reading {
             code: 0,
@@ -72,7 +81,35 @@ fn refused<T>(code: u64, at: usize) -> Step<T> {
     Err(Refusal { code, at })
 }
 
-impl<'a> Reader<'a> {
+/// A refusal of a service that writes a plan.
+fn not_written(code: u64, at: u64) -> Writing {
+    Writing {
+        code,
+        at,
+        length: 0,
+    }
+}
+
+fn written(length: usize) -> Writing {
+    Writing {
+        code: 0,
+        at: 0,
+        length: length as u64,
+    }
+}
+
+impl<'a, T: Trace> Reader<'a, T> {
+    fn new(source: &'a [u8], table: &'a mut [u64], trace: T) -> Self {
+        Reader {
+            source,
+            table,
+            at: 0,
+            nodes: 0,
+            carriers: Vec::new(),
+            trace,
+        }
+    }
+
     fn plan(&mut self) -> Step<()> {
         if self.source.len() > SOURCE_LIMIT {
             return refused(1, 0);
@@ -165,6 +202,7 @@ impl<'a> Reader<'a> {
             self.value(depth + 1)?;
         }
         self.expect(start, b"}")?;
+        self.trace.container(node, depth, self.at - 1);
         self.table[node * WIDTH + 5] = self.nodes as u64;
         Ok(())
     }
@@ -193,10 +231,11 @@ impl<'a> Reader<'a> {
         }
     }
 
-    fn next_node_fits(&self, start: usize) -> Step<()> {
+    fn next_node_fits(&mut self, start: usize) -> Step<()> {
         if self.nodes == self.table.len() / WIDTH {
             return refused(7, start);
         }
+        self.trace.node(start);
         Ok(())
     }
 

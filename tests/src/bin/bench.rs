@@ -8,19 +8,18 @@ use std::hint::black_box;
 use std::time::{Duration, Instant};
 use tonschnecke_tests::bench::peer;
 use tonschnecke_tests::bench::plans::{self, Plan};
-use tonschnecke_tests::call::{Call, Reply, Service};
+use tonschnecke_tests::call::{Call, Lent, Service};
 use tonschnecke_tests::memory::Memory;
-use tonschnecke_tests::sides;
+use tonschnecke_tests::sides::{self, Side};
 
 /// Odd, so that the median is one of them.
 const ROUNDS: usize = 15;
 /// Calls of a round go on for at least so long.
 const ROUND: Duration = Duration::from_millis(10);
-
-type Side = fn(&[u8], Call, &mut Memory) -> Reply;
+/// Bytes of an output that every plan fits into.
+const LONGEST_PLAN: usize = 65_536;
 
 fn main() {
-    let plans = plans::all();
     for service in Service::ALL {
         let name = service.to_string();
         let width = name.len().max(10);
@@ -32,13 +31,13 @@ fn main() {
             "{:<34} {:>7} {:>width$} {:>10}",
             "", "", "ns/byte", "ns/byte"
         );
-        for plan in &plans {
+        for plan in &plans::of(service) {
             check(plan, service);
             let (library, peer) = measure(plan, service);
             println!(
                 "{:<34} {:>7} {:>width$.2} {:>10.2} {:>7.2}",
                 plan.name,
-                plan.source.len(),
+                plan.texts.source.len(),
                 library,
                 peer,
                 library / peer
@@ -47,14 +46,13 @@ fn main() {
     }
 }
 
-/// Room for every node that such a source can have: none has fewer than two bytes. An output that
-/// suffices: canonical text is never longer than the source.
+/// Room for every node that such a source can have, and for a pair's: none has fewer than two bytes.
 fn call(plan: &Plan, service: Service) -> Call {
-    let length = plan.source.len();
-    let table_len = length / 2 * peer::WIDTH;
+    let table_len = (plan.texts.source.len() / 2 + 2) * peer::WIDTH;
     match service {
         Service::Read => Call::read(table_len),
-        Service::Canonicalize => Call::canonicalize(table_len, length),
+        Service::Canonicalize => Call::canonicalize(table_len, LONGEST_PLAN),
+        Service::Insert => Call::insert(plan.place, table_len, LONGEST_PLAN),
     }
 }
 
@@ -62,12 +60,13 @@ fn check(plan: &Plan, service: Service) {
     let call = call(plan, service);
     let mut left = Memory::for_call(call);
     let mut right = left.clone();
-    let reply = sides::library(&plan.source, call, &mut left);
+    let texts = plan.texts.lent();
+    let reply = sides::library(texts, call, &mut left);
     let name = plan.name;
     assert_eq!(reply.code(), 0, "{service}: {name} is refused");
     assert_eq!(
         reply,
-        sides::peer(&plan.source, call, &mut right),
+        sides::peer(texts, call, &mut right),
         "{service}, {name}: the answers differ"
     );
     let wrong_word = right.table.first_wrong(&left.table);
@@ -85,22 +84,22 @@ fn measure(plan: &Plan, service: Service) -> (f64, f64) {
     let mut memory = Memory::for_call(call);
     let (mut library, mut peer) = (Vec::new(), Vec::new());
     for _ in 0..ROUNDS {
-        library.push(round(sides::library, &plan.source, call, &mut memory));
-        peer.push(round(sides::peer, &plan.source, call, &mut memory));
+        library.push(round(sides::library, plan.texts.lent(), call, &mut memory));
+        peer.push(round(sides::peer, plan.texts.lent(), call, &mut memory));
     }
     (median(library), median(peer))
 }
 
-/// Calls again and again until the time of a round is over; nanoseconds a byte.
-fn round(side: Side, source: &[u8], call: Call, memory: &mut Memory) -> f64 {
+/// Calls again and again until the time of a round is over; nanoseconds a byte of the plan.
+fn round(side: Side, texts: Lent, call: Call, memory: &mut Memory) -> f64 {
     let start = Instant::now();
     let mut calls = 0;
     loop {
-        black_box(side(black_box(source), call, black_box(memory)));
+        black_box(side(black_box(texts), call, black_box(memory)));
         calls += 1;
         let spent = start.elapsed();
         if spent >= ROUND {
-            return spent.as_nanos() as f64 / (calls * source.len()) as f64;
+            return spent.as_nanos() as f64 / (calls * texts.source.len()) as f64;
         }
     }
 }

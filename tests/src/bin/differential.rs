@@ -1,14 +1,18 @@
-//! Compares the library with the model on enumerated and generated plans, tells what it reached.
+//! Compares the library with the model on enumerated and generated plans and insertions, tells what
+//! it reached.
 //!
 //! `--plans N` sets how many different plans are generated, `--seed N` from which seed. With
 //! `--seconds N` plans are only generated, from seed after seed, until the time is over; they are
 //! different within each seed.
-//! `--last-plan FILE` keeps each plan in a file while it is read, for a library that crashes.
+//! `--last-plan FILE` keeps each plan in a file while it is read, for a library that crashes, and
+//! each insertion in `FILE.insertion`, its plan included.
 
 use std::path::PathBuf;
 use std::process::ExitCode;
 use std::time::{Duration, Instant};
+use tonschnecke_tests::call::{Lent, Service, Texts};
 use tonschnecke_tests::campaign::{self, Campaign, Failure};
+use tonschnecke_tests::compare::Mismatch;
 use tonschnecke_tests::random::Random;
 use tonschnecke_tests::shrink::shrink;
 use tonschnecke_tests::statistics::{Report, Statistics};
@@ -89,22 +93,33 @@ fn run(
     Ok(())
 }
 
-/// Prints the plan on which the sides differ, then a shorter one that the same service gets wrong,
-/// if there is.
+/// Prints the texts on which the sides differ, then shorter ones that the same service gets wrong,
+/// if there are.
 fn explain(failure: &Failure) {
-    let source = &failure.source;
-    println!("MISMATCH on a plan of {} bytes", source.len());
-    println!("plan    {}\n{}", source.escape_ascii(), failure.mismatch);
-    let again = |source: &[u8]| campaign::mismatch(source, failure.mismatch.call.service);
-    let shortest = shrink(source, |shorter| again(shorter).is_some());
-    let shorter = shortest.len() < source.len();
-    if let Some(mismatch) = again(&shortest).filter(|_| shorter) {
-        println!("shrunk to {} bytes", shortest.len());
-        println!("plan    {}\n{mismatch}", shortest.escape_ascii());
+    let texts = failure.texts.lent();
+    let call = failure.mismatch.call;
+    println!("MISMATCH on a plan of {} bytes", texts.source.len());
+    show(texts, &failure.mismatch);
+    let shortest = shrink(texts, |shorter| campaign::mismatch(shorter, call).is_some());
+    let shorter = shortest.lent();
+    let mismatch = campaign::mismatch(shorter, call);
+    if let Some(mismatch) = mismatch.filter(|_| shorter != texts) {
+        println!("shrunk to {} bytes", shorter.source.len());
+        show(shorter, &mismatch);
     }
 }
 
-/// The run counts only if the generated plans reached every refusal, kind and odd spelling.
+fn show(texts: Lent, mismatch: &Mismatch) {
+    let Texts { source, key, value } = texts.map(|text| text.escape_ascii());
+    println!("plan    {source}");
+    if mismatch.call.service == Service::Insert {
+        println!("key     {key}\nvalue   {value}");
+    }
+    println!("{mismatch}");
+}
+
+/// The run counts only if the generated plans and insertions reached every refusal, kind, odd
+/// spelling and circumstance.
 fn judge(generated: &Statistics) -> ExitCode {
     let missing = generated.missing();
     for name in &missing {

@@ -1,11 +1,15 @@
 //! "Canonical text": plans with the text that retyping gives them, and what an output has to hold.
 
-use super::{nested, Case, Expected, AMPLE_TABLE};
-use crate::call::Call;
+use super::{nested, written, Case, Expected, AMPLE_TABLE};
+use crate::call::{Call, Lent};
 
 pub fn cases() -> Vec<Case> {
     let texts = [integers(), keys(), numbers(), copied(), wholes(), lengths()].concat();
-    texts.into_iter().flat_map(canonicalized).collect()
+    let call = Call::canonicalize(AMPLE_TABLE, 0);
+    texts
+        .into_iter()
+        .flat_map(|(source, text)| written(Lent::plan(&source), call, &text))
+        .collect()
 }
 
 /// "Retyping: reading, then 14": what reading refuses is refused alike with any output.
@@ -15,7 +19,7 @@ pub fn refused_alike(reading: &[Case]) -> Vec<Case> {
         .filter(|case| matches!(case.expected, Expected::Refused { .. }));
     refused
         .flat_map(|case| {
-            [0, 1, case.source.len()].map(|out_len| Case {
+            [0, 1, case.texts.source.len()].map(|out_len| Case {
                 call: Call::canonicalize(case.call.table_len, out_len),
                 ..case.clone()
             })
@@ -25,27 +29,6 @@ pub fn refused_alike(reading: &[Case]) -> Vec<Case> {
 
 /// A plan and its canonical text.
 type Texts = (Vec<u8>, Vec<u8>);
-
-/// The plan with outputs that suffice, and with the two that are refused: one byte too small, and
-/// empty.
-fn canonicalized((source, text): Texts) -> Vec<Case> {
-    let length = text.len();
-    let into = |out_len: usize| Case {
-        source: source.clone(),
-        call: Call::canonicalize(AMPLE_TABLE, out_len),
-        expected: if out_len < length {
-            Expected::Refused { code: 14, at: 0 }
-        } else {
-            Expected::Written {
-                length: length as u64,
-                text: text.clone(),
-            }
-        },
-    };
-    [length, length + 1, length + 100, length - 1, 0]
-        .map(into)
-        .into()
-}
 
 fn texts(pairs: &[(&str, &str)]) -> Vec<Texts> {
     let bytes = |(source, text): &(&str, &str)| (source.as_bytes().into(), text.as_bytes().into());

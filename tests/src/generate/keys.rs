@@ -163,3 +163,19 @@ pub fn write(random: &mut Random, out: &mut Vec<u8>, key: &Key) {
     }
     out.push(b';');
 }
+
+/// The same, with a sign or a zero that is not needed.
+pub fn write_oddly(out: &mut Vec<u8>, key: &Key) {
+    match key {
+        Key::Integer(value) => {
+            let sign = if *value < 0 { '-' } else { '+' };
+            out.extend(format!("i:{sign}0{}", value.unsigned_abs()).bytes());
+        }
+        Key::Text(bytes) => {
+            out.extend(format!("s:0{}:\"", bytes.len()).bytes());
+            out.extend(bytes);
+            out.push(b'"');
+        }
+    }
+    out.push(b';');
+}

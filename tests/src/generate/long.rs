@@ -1,4 +1,4 @@
-//! Plans at the limit of length, and containers with very many keys.
+//! Plans at the limit of length, arrays of many pairs, and of very many keys.
 
 use super::keys::{self, Keys};
 use crate::random::Random;
@@ -21,11 +21,13 @@ const STRETCHABLE: &[(&str, u8, &str)] = &[
     ("O:1:\"X\":", b'0', "1:{s:1:\"x\";r:1;}"),
 ];
 
-/// A plan of an exact length, most often at the limit of 65,536 bytes or one beyond.
+/// A plan of an exact length, most often at the limit of 65,536 bytes, one beyond or right before.
 pub fn padded(random: &mut Random) -> Vec<u8> {
     let any = random.between(9_000, 65_536);
+    // Room for one pair.
+    let near = random.between(65_480, 65_525);
     let length = random.pick(&[
-        65_536, 65_536, 65_536, 65_535, 65_537, 65_537, 66_000, 131_072, any, any,
+        65_536, 65_536, 65_536, 65_535, 65_537, 65_537, 66_000, 131_072, any, any, near, near, near,
     ]);
     match random.below(6) {
         0..=2 => stretched(random, length),
@@ -57,24 +59,53 @@ fn one_text(random: &mut Random, length: usize) -> Vec<u8> {
 /// As many pairs with rising keys as fit; the count's leading zeros fill the rest. Here references
 /// name ordinals in the thousands.
 fn many_pairs(random: &mut Random, length: usize) -> Vec<u8> {
-    let tags = random.pick(&["N", "NNRr", "RR", "rr", "Nrra"]).as_bytes();
+    let tags = random.pick(&["N", "NNRr", "RR", "rr", "Nrra"]);
+    let any = |random: &mut Random, ordinals| random.between(1, ordinals);
+    let (pairs, count) = pairs(random, tags, any, |bytes, _| bytes + 40 < length);
+    let tail = format!("{count}:{{{pairs}}}");
+    let zeros = "0".repeat(length - 2 - tail.len());
+    format!("a:{zeros}{tail}").into_bytes()
+}
+
+/// An array whose count, and the ordinals that its references name, are around a power of ten: one
+/// more may have a digit more.
+pub fn listed(random: &mut Random, power: usize) -> Vec<u8> {
+    let tags = random.pick(&["NNNr", "NNNNaR", "aNrrr"]);
+    let around = |random: &mut Random, ordinals: usize| {
+        let near = ordinals.min(random.between(power - 2, power + 1));
+        let any = random.between(1, ordinals);
+        random.pick(&[near, near, any])
+    };
+    let wanted = random.pick(&[power - 1, power - 1, power, power + power / 4]);
+    let (pairs, count) = pairs(random, tags, around, |_, count| count < wanted);
+    format!("a:{count}:{{{pairs}}}").into_bytes()
+}
+
+/// Pairs with rising keys and values of these kinds, as long as more are `wanted` of their bytes and
+/// count, and how many there are. References name one of so many ordinals.
+fn pairs(
+    random: &mut Random,
+    tags: &str,
+    name: impl Fn(&mut Random, usize) -> usize,
+    wanted: impl Fn(usize, usize) -> bool,
+) -> (String, usize) {
     let mut pairs = String::from("i:-1;N;");
     let mut count = 1;
     let mut ordinals = 2;
-    while pairs.len() + 40 < length {
-        let named = random.between(1, ordinals);
-        let tag = random.pick(tags);
+    while wanted(pairs.len(), count) {
+        let tag = random.pick(tags.as_bytes());
         pairs += &match tag {
-            b'r' | b'R' => format!("i:{};{}:{named};", count - 1, tag as char),
+            b'r' | b'R' => {
+                let named = name(random, ordinals);
+                format!("i:{};{}:{named};", count - 1, tag as char)
+            }
             b'a' => format!("i:{};a:0:{{}}", count - 1),
             _ => format!("i:{};N;", count - 1),
         };
         count += 1;
         ordinals += usize::from(tag != b'R');
     }
-    let tail = format!("{count}:{{{pairs}}}");
-    let zeros = "0".repeat(length - 2 - tail.len());
-    format!("a:{zeros}{tail}").into_bytes()
+    (pairs, count)
 }
 
 /// An array of many pairs whose keys do not rise, or repeat one near the end.

@@ -1,17 +1,19 @@
-//! Seeded plans: valid ones, damaged ones, and noise.
+//! Seeded plans: valid ones, damaged ones, and noise; insertions into them.
 
 mod damage;
 mod faults;
+mod insertion;
 mod keys;
 mod long;
 mod noise;
 mod plan;
 mod spelling;
 
+pub use insertion::{insertion, Insertion};
 pub use long::padded;
 
 use crate::random::Random;
-use long::crowded;
+use long::{crowded, listed};
 use plan::{write, Style};
 
 /// The bytes that the format itself uses.
@@ -22,10 +24,14 @@ pub const ALPHABET: &[u8] = b"NbidsaOrR:;{}\"0123456789+-.eEIFACoSU";
 pub fn plan(random: &mut Random) -> Vec<u8> {
     match random.below(10_000) {
         0..=1 => crowded(random),
-        2..=13 => padded(random),
-        14..=39 => wide(random, 0),
-        40..=69 => wide(random, 700),
-        70..=3_499 => valid(random),
+        2..=15 => padded(random),
+        16..=41 => wide(random, 0),
+        42..=69 => wide(random, 700),
+        70..=74 => listed(random, 1_000),
+        75..=99 => listed(random, 100),
+        100..=199 => listed(random, 10),
+        200..=499 => linked(random),
+        500..=3_499 => valid(random),
         3_500..=6_499 => damaged(random),
         6_500..=7_999 => faulty(random),
         _ => noise::bytes(random),
@@ -35,6 +41,18 @@ pub fn plan(random: &mut Random) -> Vec<u8> {
 /// A plan that reading accepts.
 pub fn valid(random: &mut Random) -> Vec<u8> {
     let style = style(random);
+    write(random, style)
+}
+
+/// A valid plan whose references name what gets a digit more if it is moved by one.
+fn linked(random: &mut Random) -> Vec<u8> {
+    let near = if random.one_in(12) { 100 } else { 10 };
+    let mut style = style(random);
+    style.near = near;
+    style.nodes = random.between(3 * near, 5 * near);
+    style.depth = random.pick(&[3, 4, 6]);
+    style.spine = false;
+    style.longest_text = 3;
     write(random, style)
 }
 
@@ -72,6 +90,7 @@ fn style(random: &mut Random) -> Style {
         depth,
         spine,
         longest_text: random.pick(&[3, 12, 12, 40]),
+        near: 0,
         wrong_values: 0,
         wrong_keys: 0,
     }
@@ -84,6 +103,7 @@ fn wide(random: &mut Random, faults: usize) -> Vec<u8> {
         depth: 20,
         spine: false,
         longest_text: 60,
+        near: 0,
         wrong_values: faults,
         wrong_keys: faults,
     };

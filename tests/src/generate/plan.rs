@@ -15,6 +15,8 @@ pub struct Style {
     /// Whether one path leads down to that depth for certain.
     pub spine: bool,
     pub longest_text: usize,
+    /// References often name an ordinal around this one; 0 for none.
+    pub near: usize,
     /// One value in so many is wrong; 0 for none.
     pub wrong_values: usize,
     /// One key in so many is wrong or repeats another; 0 for none.
@@ -55,7 +57,9 @@ impl Writer<'_> {
         if inner && (spine || wanted) {
             self.container(depth, spine);
         } else {
-            self.leaf();
+            // The spine often ends in an array, which may be the deepest there is.
+            let array = spine && self.random.one_in(2);
+            self.leaf(array);
         }
     }
 
@@ -112,45 +116,35 @@ impl Writer<'_> {
         }
     }
 
-    /// A value that holds nothing: a scalar, a reference or an empty container.
-    fn leaf(&mut self) {
+    /// A value that holds nothing: a plain one, a reference or an empty container.
+    fn leaf(&mut self, array: bool) {
         let earlier = self.ordinals;
         let tag = match earlier {
+            _ if array => b'a',
             0 => self.random.pick(b"NbidsaO"),
             _ => self.random.pick(b"NbidsaOrrRR"),
         };
         self.ordinals += usize::from(tag != b'R');
-        if matches!(tag, b'a' | b'O') {
-            self.head(tag == b'O', 0);
-            self.out.push(b'}');
-            return;
+        match tag {
+            b'a' | b'O' => {
+                self.head(tag == b'O', 0);
+                self.out.push(b'}');
+            }
+            b'r' | b'R' => self.reference(tag, earlier),
+            _ => spelling::plain(self.random, &mut self.out, tag, self.style.longest_text),
         }
-        self.out.push(tag);
-        if tag != b'N' {
-            self.out.push(b':');
-            self.leaf_text(tag, earlier);
-        }
-        self.out.push(b';');
     }
 
-    fn leaf_text(&mut self, tag: u8, earlier: usize) {
-        let random = &mut *self.random;
-        match tag {
-            b'b' => self.out.push(random.pick(b"01")),
-            b'i' => {
-                let value = spelling::any_integer(random);
-                spelling::integer(random, &mut self.out, value);
-            }
-            b'd' => spelling::float(random, &mut self.out),
-            b's' => {
-                let text = spelling::text(random, self.style.longest_text);
-                spelling::quoted(random, &mut self.out, &text);
-            }
-            _ => {
-                let any = random.between(1, earlier);
-                let ordinal = random.pick(&[any, any, 1, earlier]);
-                spelling::number(random, &mut self.out, ordinal);
-            }
-        }
+    fn reference(&mut self, tag: u8, earlier: usize) {
+        let near = self.style.near;
+        let any = self.random.between(1, earlier);
+        let ordinal = if (1..=earlier + 1).contains(&near) && self.random.one_in(2) {
+            earlier.min(self.random.between(near - 1, near + 1))
+        } else {
+            self.random.pick(&[any, any, 1, earlier])
+        };
+        self.out.extend([tag, b':']);
+        spelling::number(self.random, &mut self.out, ordinal);
+        self.out.push(b';');
     }
 }

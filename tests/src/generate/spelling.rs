@@ -107,6 +107,28 @@ pub fn text(random: &mut Random, longest: usize) -> Vec<u8> {
     }
 }
 
+/// Writes a plain value of a kind.
+pub fn plain(random: &mut Random, out: &mut Vec<u8>, tag: u8, longest_text: usize) {
+    out.push(tag);
+    if tag != b'N' {
+        out.push(b':');
+    }
+    match tag {
+        b'N' => {}
+        b'b' => out.push(random.pick(b"01")),
+        b'i' => {
+            let value = any_integer(random);
+            integer(random, out, value);
+        }
+        b'd' => float(random, out),
+        _ => {
+            let text = text(random, longest_text);
+            quoted(random, out, &text);
+        }
+    }
+    out.push(b';');
+}
+
 /// Number, `:"`, the bytes, `"`.
 pub fn quoted(random: &mut Random, out: &mut Vec<u8>, bytes: &[u8]) {
     number(random, out, bytes.len());

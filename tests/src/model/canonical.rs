@@ -1,6 +1,6 @@
 //! Canonical text, written from the tree: what the source spelled otherwise is not in there.
 
-use super::value::{Key, Pair, Span, Value};
+use super::value::{Key, Kind, Pair, Span, Value};
 
 /// "Every integer and number in shortest decimal form [...] Float texts, strings and class names
 /// are copied", from the source that the tree was parsed from.
@@ -20,26 +20,26 @@ struct Writer<'a> {
 
 impl Writer<'_> {
     fn value(&mut self, value: &Value) {
-        match value {
-            Value::Null => self.put("N;"),
-            Value::Bool(value) => self.put(format!("b:{};", u8::from(*value))),
-            Value::Integer(value) => self.put(format!("i:{value};")),
-            Value::Float(span) => {
+        match &value.kind {
+            Kind::Null => self.put("N;"),
+            Kind::Bool(value) => self.put(format!("b:{};", u8::from(*value))),
+            Kind::Integer(value) => self.put(format!("i:{value};")),
+            Kind::Float(span) => {
                 self.put("d:");
                 self.copy(*span);
                 self.put(";");
             }
-            Value::Text(span) => self.text("s", *span, ";"),
-            Value::Array(pairs) => {
+            Kind::Text(span) => self.text("s", *span, ";"),
+            Kind::Array(pairs) => {
                 self.put("a");
                 self.pairs(pairs);
             }
-            Value::Object { class, pairs } => {
+            Kind::Object { class, pairs } => {
                 self.text("O", *class, "");
                 self.pairs(pairs);
             }
-            Value::Copy(ordinal) => self.put(format!("r:{ordinal};")),
-            Value::Alias(ordinal) => self.put(format!("R:{ordinal};")),
+            Kind::Copy(ordinal) => self.put(format!("r:{ordinal};")),
+            Kind::Alias(ordinal) => self.put(format!("R:{ordinal};")),
         }
     }
 

@@ -3,27 +3,20 @@
 use super::numeral::{Numeral, Role};
 use super::refusal::{Code, Refusal};
 use super::scan::Scanner;
-use super::value::{Key, Pair, Span, Value};
-use super::LONGEST_PLAN;
+use super::value::{Key, Kind, Pair, Span, Value};
+use super::{DEEPEST, LONGEST_PLAN};
 use std::collections::HashSet;
 
-const DEEPEST: usize = 64;
-
 /// The tree or the refusal, how many nodes found room, and the integers and numbers met.
-pub struct Parsed {
-    pub outcome: Result<Value, Refusal>,
+pub struct Parsed<'a> {
+    pub outcome: Result<Value<'a>, Refusal>,
     pub nodes_met: usize,
     pub numerals: Vec<Numeral>,
 }
 
 /// Parses a whole plan, with room for `capacity` nodes.
-pub fn parse(source: &[u8], capacity: usize) -> Parsed {
-    let mut parser = Parser {
-        scanner: Scanner::new(source),
-        capacity,
-        nodes: 0,
-        ordinals: 0,
-    };
+pub fn parse(source: &[u8], capacity: usize) -> Parsed<'_> {
+    let mut parser = Parser::new(source, capacity);
     let outcome = parser.plan();
     Parsed {
         outcome,
@@ -32,16 +25,24 @@ pub fn parse(source: &[u8], capacity: usize) -> Parsed {
     }
 }
 
+/// The key that a text is: "exactly one i or s, [...] nothing after it".
+pub fn lone_key(text: &[u8]) -> Option<Key> {
+    let mut parser = Parser::new(text, 1);
+    let key = parser.key(ARRAY_KEYS).ok()?;
+    parser.is_at_end().then_some(key)
+}
+
+/// The value that a text is: "exactly one plain value (N, b, i, d or s), nothing after it".
+pub fn lone_plain_value(text: &[u8]) -> Option<Value<'_>> {
+    let mut parser = Parser::new(text, 1);
+    let value = parser.value(1).ok()?;
+    let plain = !value.is_container() && !value.is_reference();
+    (plain && parser.is_at_end()).then_some(value)
+}
+
 /// "A key of `a` is an i or an s; a key of `O` is an s"
 const ARRAY_KEYS: &[u8] = b"is";
 const OBJECT_KEYS: &[u8] = b"s";
-
-/// What makes two keys equal: integers by value, texts by bytes, never one with the other.
-#[derive(PartialEq, Eq, Hash)]
-enum Identity<'a> {
-    Integer(i64),
-    Text(&'a [u8]),
-}
 
 struct Parser<'a> {
     scanner: Scanner<'a>,
@@ -52,38 +53,60 @@ struct Parser<'a> {
     ordinals: usize,
 }
 
-impl Parser<'_> {
-    fn plan(&mut self) -> Result<Value, Refusal> {
+impl<'a> Parser<'a> {
+    fn new(source: &'a [u8], capacity: usize) -> Self {
+        Parser {
+            scanner: Scanner::new(source),
+            capacity,
+            nodes: 0,
+            ordinals: 0,
+        }
+    }
+
+    fn plan(&mut self) -> Result<Value<'a>, Refusal> {
         if self.scanner.rest().len() > LONGEST_PLAN {
             return Err(Code::TooLong.at(0));
         }
         let root = self.value(1)?;
-        if !self.scanner.rest().is_empty() {
+        if !self.is_at_end() {
             return Err(Code::Trailing.at(self.scanner.position()));
         }
         Ok(root)
     }
 
+    fn is_at_end(&self) -> bool {
+        self.scanner.rest().is_empty()
+    }
+
     /// "At a letter: 3 or 4, then 8, then 7, then the text from left to right."
-    fn value(&mut self, depth: usize) -> Result<Value, Refusal> {
+    fn value(&mut self, depth: usize) -> Result<Value<'a>, Refusal> {
         let at = self.scanner.position();
         let tag = self.tag(b"NbidsaOrR", Code::UnknownTag)?;
         if depth > DEEPEST {
             return Err(Code::TooDeep.at(at));
         }
-        self.take_node(at)?;
+        let node = Some(self.take_node(at)?);
         // "at most the count taken so far, an r's own number not included"
         let named_at_most = self.ordinals;
         if tag != b'R' {
             self.ordinals += 1;
         }
-        match tag {
-            b'a' | b'O' => self.container(tag, at, depth),
-            b'r' | b'R' => self
-                .reference(tag, named_at_most)
-                .map_err(|code| code.at(at)),
-            _ => self.scalar(tag).map_err(|code| code.at(at)),
-        }
+        let (text, kind) = match tag {
+            b'a' | b'O' => self.container(tag, at, depth)?,
+            _ => {
+                let kind = match tag {
+                    b'r' | b'R' => self.reference(tag, named_at_most),
+                    _ => self.scalar(tag),
+                };
+                let kind = kind.map_err(|code| code.at(at))?;
+                (self.scanner.since(at), kind)
+            }
+        };
+        Ok(Value {
+            node,
+            text: text.into(),
+            kind,
+        })
     }
 
     /// The tag due here, left unread. A plan that ends here is 2 at its length.
@@ -96,56 +119,65 @@ impl Parser<'_> {
         }
     }
 
-    fn take_node(&mut self, at: usize) -> Result<(), Refusal> {
+    /// The index of the node that begins here.
+    fn take_node(&mut self, at: usize) -> Result<usize, Refusal> {
         if self.nodes >= self.capacity {
             return Err(Code::NoCapacity.at(at));
         }
         self.nodes += 1;
-        Ok(())
+        Ok(self.nodes - 1)
     }
 
-    fn scalar(&mut self, tag: u8) -> Result<Value, Code> {
+    fn scalar(&mut self, tag: u8) -> Result<Kind<'a>, Code> {
         let scanner = &mut self.scanner;
         scanner.literal(&[tag])?;
-        let value = match tag {
-            b'N' => Value::Null,
-            b'b' if scanner.literal(b":0").is_ok() => Value::Bool(false),
-            b'b' => scanner.literal(b":1").map(|()| Value::Bool(true))?,
+        let kind = match tag {
+            b'N' => Kind::Null,
+            b'b' if scanner.literal(b":0").is_ok() => Kind::Bool(false),
+            b'b' => scanner.literal(b":1").map(|()| Kind::Bool(true))?,
             _ => {
                 scanner.literal(b":")?;
                 match tag {
-                    b'i' => Value::Integer(scanner.integer(Role::Integer)?),
-                    b'd' => Value::Float(scanner.float()?),
-                    _ => Value::Text(scanner.quoted(Role::TextLength)?),
+                    b'i' => Kind::Integer(scanner.integer(Role::Integer)?),
+                    b'd' => Kind::Float(scanner.float()?),
+                    _ => Kind::Text(scanner.quoted(Role::TextLength)?),
                 }
             }
         };
         scanner.literal(b";")?;
-        Ok(value)
+        Ok(kind)
     }
 
     /// "6 and 9 come after the closing `;`."
-    fn reference(&mut self, tag: u8, named_at_most: usize) -> Result<Value, Code> {
+    fn reference(&mut self, tag: u8, named_at_most: usize) -> Result<Kind<'a>, Code> {
         self.scanner.literal(&[tag, b':'])?;
         let ordinal = self.scanner.number(Role::Reference)?;
         self.scanner.literal(b";")?;
         match tag {
             _ if !(1..=named_at_most).contains(&ordinal) => Err(Code::UnknownOrdinal),
-            b'r' => Ok(Value::Copy(ordinal)),
-            _ => Ok(Value::Alias(ordinal)),
+            b'r' => Ok(Kind::Copy(ordinal)),
+            _ => Ok(Kind::Alias(ordinal)),
         }
     }
 
-    fn container(&mut self, tag: u8, at: usize, depth: usize) -> Result<Value, Refusal> {
+    /// A container's text up to its `{`, and what it holds.
+    fn container(
+        &mut self,
+        tag: u8,
+        at: usize,
+        depth: usize,
+    ) -> Result<(&'a [u8], Kind<'a>), Refusal> {
         let (class, count) = self.head(tag).map_err(|code| code.at(at))?;
+        let text = self.scanner.since(at);
         let key_tags = class.map_or(ARRAY_KEYS, |_| OBJECT_KEYS);
         let pairs = self.pairs(count, key_tags, depth + 1)?;
         // A missing `}` belongs to the container whose `}` it is.
         self.scanner.literal(b"}").map_err(|code| code.at(at))?;
-        Ok(match class {
-            Some(class) => Value::Object { class, pairs },
-            None => Value::Array(pairs),
-        })
+        let kind = match class {
+            Some(class) => Kind::Object { class, pairs },
+            None => Kind::Array(pairs),
+        };
+        Ok((text, kind))
     }
 
     /// Everything up to the `{`: the class name of an O and the count of pairs.
@@ -161,21 +193,22 @@ impl Parser<'_> {
         Ok((class, count))
     }
 
-    fn pairs(&mut self, count: usize, tags: &[u8], depth: usize) -> Result<Vec<Pair>, Refusal> {
+    fn pairs(&mut self, count: usize, tags: &[u8], depth: usize) -> Result<Vec<Pair<'a>>, Refusal> {
         let mut seen = HashSet::new();
         let mut pairs = Vec::new();
         for _ in 0..count {
             let at = self.scanner.position();
             let key = self.key(tags)?;
-            let identity = match key {
-                Key::Integer(value) => Identity::Integer(value),
-                Key::Text(span) => Identity::Text(self.scanner.bytes(span)),
-            };
-            if !seen.insert(identity) {
+            let key_text = self.scanner.since(at);
+            if !seen.insert(key.identity(self.scanner.source())) {
                 return Err(Code::EqualKey.at(at));
             }
             let value = self.value(depth)?;
-            pairs.push(Pair { key, value });
+            pairs.push(Pair {
+                key,
+                key_text,
+                value,
+            });
         }
         Ok(pairs)
     }

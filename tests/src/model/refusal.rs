@@ -1,6 +1,6 @@
-//! The refusals of reading and retyping, by the paper's numbers.
+//! The refusals, by the paper's numbers.
 
-/// Rows 1 to 10 and 14 of "What is refused, and the order".
+/// The rows of "What is refused, and the order".
 #[derive(Clone, Copy, Debug, PartialEq, Eq)]
 pub enum Code {
     TooLong = 1,
@@ -13,6 +13,9 @@ pub enum Code {
     TooDeep = 8,
     EqualKey = 9,
     Trailing = 10,
+    NoArray = 11,
+    NoPlace = 12,
+    UnfitText = 13,
     NoOutput = 14,
 }
 

@@ -24,6 +24,10 @@ impl<'a> Scanner<'a> {
         }
     }
 
+    pub fn source(&self) -> &'a [u8] {
+        self.source
+    }
+
     pub fn position(&self) -> usize {
         self.position
     }
@@ -32,8 +36,9 @@ impl<'a> Scanner<'a> {
         &self.source[self.position..]
     }
 
-    pub fn bytes(&self, span: Span) -> &'a [u8] {
-        span.of(self.source)
+    /// What was passed from a position on.
+    pub fn since(&self, position: usize) -> &'a [u8] {
+        &self.source[position..self.position]
     }
 
     pub fn into_numerals(self) -> Vec<Numeral> {
@@ -103,11 +108,10 @@ impl<'a> Scanner<'a> {
     /// "A run of digits is taken whole, then 5 is tested, then the next byte."
     fn digits(&mut self) -> Result<&'a [u8], Code> {
         let run = self.rest().iter().take_while(|byte| byte.is_ascii_digit());
-        let span = match run.count() {
-            0 => return Err(Code::Malformed),
-            length => self.take(length),
-        };
-        Ok(self.bytes(span))
+        match run.count() {
+            0 => Err(Code::Malformed),
+            length => Ok(self.take(length).of(self.source)),
+        }
     }
 
     /// Keeps the integer or number that ends here.

@@ -1,6 +1,8 @@
 //! The node table, computed from the finished tree in two walks: ordinals first, then rows.
 
-use super::value::{Key, Span, Value};
+use super::value::{Identity, Key, Kind, Span, Value};
+use crate::call::Place;
+use std::iter;
 
 /// Words to a node.
 pub const WORDS: usize = 6;
@@ -13,6 +15,51 @@ pub type Row = [u64; WORDS];
 pub struct Table {
     pub ordinals: usize,
     pub rows: Vec<Row>,
+}
+
+impl Table {
+    /// The nodes of a container's keys. Behind a key stands its value, which says where it ends.
+    pub fn keys_of(&self, container: usize) -> impl Iterator<Item = usize> + '_ {
+        let end = self.rows[container][5] as usize;
+        let inside = move |key: usize| (key < end).then_some(key);
+        iter::successors(inside(container + 1), move |key| {
+            inside(self.rows[key + 1][5] as usize)
+        })
+    }
+
+    /// The key at a node of a plan.
+    pub fn key<'s>(&self, node: usize, source: &'s [u8]) -> Identity<'s> {
+        let row @ [_, _, content, length, ..] = &self.rows[node];
+        match is_of(row, b"i") {
+            true => Identity::Integer(*content as i64),
+            false => Identity::Text(&source[*content as usize..][..*length as usize]),
+        }
+    }
+
+    /// The node that the key of a new pair takes: that of the key with its place, or the first one
+    /// after the array.
+    pub fn gap(&self, place: Place) -> usize {
+        let end = self.rows[place.array_node][5] as usize;
+        let mut keys = self.keys_of(place.array_node);
+        keys.nth(place.pair_index).unwrap_or(end)
+    }
+
+    /// "1 plus the numbers taken by values whose letters stand before the new pair"
+    pub fn new_ordinal(&self, gap: usize) -> usize {
+        let takes_ordinal = |row: &&Row| row[1] > 0;
+        1 + self.rows[..gap].iter().filter(takes_ordinal).count()
+    }
+
+    /// "the plan itself has depth 1, a value in a container one more than the container"
+    pub fn depth_of(&self, value: usize) -> usize {
+        let holds_it = |row: &&Row| row[5] as usize > value;
+        1 + self.rows[..value].iter().filter(holds_it).count()
+    }
+}
+
+/// Whether a node is of one of these kinds.
+pub fn is_of(row: &Row, tags: &[u8]) -> bool {
+    tags.iter().any(|&tag| row[0] == u64::from(tag))
 }
 
 /// The table of a plan.
@@ -77,16 +124,16 @@ impl Writer<'_> {
             let [offset, length] = span_words(span);
             [offset, length, count as u64]
         };
-        match value {
-            Value::Null => (b'N', [0; 3]),
-            Value::Bool(value) => (b'b', [(*value).into(), 0, 0]),
-            Value::Integer(value) => (b'i', [*value as u64, 0, 0]),
-            Value::Float(span) => (b'd', text(*span, 0)),
-            Value::Text(span) => (b's', text(*span, 0)),
-            Value::Array(pairs) => (b'a', [0, 0, pairs.len() as u64]),
-            Value::Object { class, pairs } => (b'O', text(*class, pairs.len())),
-            Value::Copy(ordinal) => (b'r', self.named(*ordinal)),
-            Value::Alias(ordinal) => (b'R', self.named(*ordinal)),
+        match &value.kind {
+            Kind::Null => (b'N', [0; 3]),
+            Kind::Bool(value) => (b'b', [(*value).into(), 0, 0]),
+            Kind::Integer(value) => (b'i', [*value as u64, 0, 0]),
+            Kind::Float(span) => (b'd', text(*span, 0)),
+            Kind::Text(span) => (b's', text(*span, 0)),
+            Kind::Array(pairs) => (b'a', [0, 0, pairs.len() as u64]),
+            Kind::Object { class, pairs } => (b'O', text(*class, pairs.len())),
+            Kind::Copy(ordinal) => (b'r', self.named(*ordinal)),
+            Kind::Alias(ordinal) => (b'R', self.named(*ordinal)),
         }
     }
 

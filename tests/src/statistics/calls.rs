@@ -7,9 +7,17 @@ use crate::call::{Reply, Service};
 const AT_START: &[usize] = &[1, 2, 3, 5, 6, 7];
 /// The refusals of reading that can stand further on.
 const FURTHER_ON: &[usize] = &[2, 3, 4, 5, 6, 7, 8, 9, 10];
-/// The refusal of retyping's own.
-const OUTPUT_TOO_SMALL: usize = 14;
 const LAST_REFUSAL: usize = 14;
+
+/// The refusals of a service's own, all at position 0. The 7 of inserting is counted by its
+/// circumstances.
+fn own(service: Service) -> &'static [usize] {
+    match service {
+        Service::Read => &[],
+        Service::Canonicalize => &[14],
+        Service::Insert => &[8, 9, 11, 12, 13, 14],
+    }
+}
 
 #[derive(Default)]
 pub struct Calls {
@@ -35,8 +43,7 @@ impl Calls {
             Line::needed(format!("{service} accepted"), self.accepted),
         ];
         for (code, [start, further]) in (1..).zip(self.refused) {
-            let own = service == Service::Canonicalize && code == OUTPUT_TOO_SMALL;
-            if own || AT_START.contains(&code) {
+            if AT_START.contains(&code) || own(service).contains(&code) {
                 lines.push(Line::needed(
                     format!("{service} refused {code} at 0"),
                     start,

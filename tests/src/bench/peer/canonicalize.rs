@@ -1,13 +1,14 @@
 //! Retyping: the plan is read, its canonical text written node by node, and the table's offsets
 //! changed to those in the text, since nothing else of the table changes.
 
-use super::{read, WIDTH};
+use super::digits::Digits;
+use super::{not_written, read, written, WIDTH};
 use crate::library::{Reading, Writing};
 
 pub fn canonicalize(source: &[u8], table: &mut [u64], out: &mut [u8]) -> Writing {
     let Reading { code, at, .. } = read(source, table);
     if code != 0 {
-        return refused(code, at);
+        return not_written(code, at);
     }
     let mut writer = Writer {
         source,
@@ -16,24 +17,12 @@ pub fn canonicalize(source: &[u8], table: &mut [u64], out: &mut [u8]) -> Writing
     };
     writer.node(0);
     let text = writer.text;
-    let Some(written) = out.get_mut(..text.len()) else {
+    let Some(lent) = out.get_mut(..text.len()) else {
         table.fill(0);
-        return refused(14, 0);
+        return not_written(14, 0);
     };
-    written.copy_from_slice(&text);
-    Writing {
-        code: 0,
-        at: 0,
-        length: text.len() as u64,
-    }
-}
-
-fn refused(code: u64, at: u64) -> Writing {
-    Writing {
-        code,
-        at,
-        length: 0,
-    }
+    lent.copy_from_slice(&text);
+    written(text.len())
 }
 
 struct Writer<'a> {
@@ -105,18 +94,7 @@ impl Writer<'_> {
         self.digits(value);
     }
 
-    /// Shortest decimal form, made from the last digit on.
-    fn digits(&mut self, mut value: u64) {
-        let mut digits = [0; 20];
-        let mut first = digits.len();
-        loop {
-            first -= 1;
-            digits[first] = b'0' + (value % 10) as u8;
-            value /= 10;
-            if value == 0 {
-                break;
-            }
-        }
-        self.text.extend_from_slice(&digits[first..]);
+    fn digits(&mut self, value: u64) {
+        self.text.extend_from_slice(Digits::of(value).text());
     }
 }

@@ -8,7 +8,7 @@ use std::iter;
 const FEW: usize = 8;
 
 #[derive(PartialEq, Eq)]
-enum Key<'a> {
+pub enum Key<'a> {
     Int(i64),
     Text(&'a [u8]),
 }
@@ -78,21 +78,26 @@ impl<'a> Keys<'a> {
         }
     }
 
-    /// The nodes of the keys before a node: behind a key stands its value, which says where it ends.
     fn earlier<'t>(&self, table: &'t [u64], node: usize) -> impl Iterator<Item = usize> + 't {
-        let mut next = self.first;
-        iter::from_fn(move || {
-            let key = next;
-            if key >= node {
-                return None;
-            }
-            next = table[(key + 1) * WIDTH + 5] as usize;
-            Some(key)
-        })
+        keys_between(self.first, node, table)
     }
 }
 
-fn key_at<'a>(source: &'a [u8], table: &[u64], node: usize) -> Key<'a> {
+/// The nodes of a container's keys from the `first` on and before a node: behind a key stands its
+/// value, which says where it ends.
+pub fn keys_between(first: usize, node: usize, table: &[u64]) -> impl Iterator<Item = usize> + '_ {
+    let mut next = first;
+    iter::from_fn(move || {
+        let key = next;
+        if key >= node {
+            return None;
+        }
+        next = table[(key + 1) * WIDTH + 5] as usize;
+        Some(key)
+    })
+}
+
+pub fn key_at<'a>(source: &'a [u8], table: &[u64], node: usize) -> Key<'a> {
     let words = &table[node * WIDTH..][..WIDTH];
     if words[0] == u64::from(b'i') {
         return Key::Int(words[2] as i64);

@@ -1,10 +1,10 @@
 //! The texts behind a tag. `start` is the tag's position, where a fault is told.
 
-use super::{refused, Content, Reader, Step};
+use super::{refused, Content, Reader, Step, Trace};
 
 const NUMBER_LIMIT: u64 = 65_536;
 
-impl Reader<'_> {
+impl<T: Trace> Reader<'_, T> {
     pub fn expect(&mut self, start: usize, text: &[u8]) -> Step<()> {
         if !self.source[self.at..].starts_with(text) {
             return refused(2, start);

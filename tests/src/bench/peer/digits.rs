@@ -1,0 +1,27 @@
+//! Shortest decimal form.
+
+pub struct Digits {
+    digits: [u8; 20],
+    first: usize,
+}
+
+impl Digits {
+    /// Made from the last digit on.
+    pub fn of(mut value: u64) -> Self {
+        let mut digits = [0; 20];
+        let mut first = digits.len();
+        loop {
+            first -= 1;
+            digits[first] = b'0' + (value % 10) as u8;
+            value /= 10;
+            if value == 0 {
+                break;
+            }
+        }
+        Digits { digits, first }
+    }
+
+    pub fn text(&self) -> &[u8] {
+        &self.digits[self.first..]
+    }
+}
