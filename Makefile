@@ -25,7 +25,7 @@ run:
 	rt check nodes
 	target/bin/nodes < examples/year.plan
 
-# the proved library beside a reader and retyper written from the specification alone; the program and the C examples as a user runs them
+# the proved library beside a side written from the specification alone; the program and the C examples as a user runs them
 compare: archive
 	rt check nodes
 	tests/nodes.sh $(CURDIR)/target/bin/nodes
