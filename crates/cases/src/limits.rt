@@ -17,7 +17,7 @@ pub(crate) fn run(tally: Tally) -> Tally {
 }
 
 // Arrays nested so deep, then braces to the end: `a:1:{i:0;` for each but the innermost, `a:0:{}`.
-fn nested(depth: usize) -> [u8; 646]
+pub(crate) fn nested(depth: usize) -> [u8; 646]
     requires { ⌜ (1 ≤ depth) × (depth ≤ 65) ⌝ }
     ensures { λ r. ⌜ 646 ≡ length r ⌝ }
 {

@@ -5,15 +5,18 @@ mod answer;
 mod canonical;
 mod compare;
 mod documents;
+mod insertions;
 mod limits;
 mod memory;
 mod paper;
 mod report;
+mod request;
 
 fn main() {
     let paper = paper::run(Tally::new());
     let limits = limits::run(paper);
     let documents = documents::run(limits);
-    let all = canonical::run(documents);
+    let canonical = canonical::run(documents);
+    let all = insertions::run(canonical);
     all.print();
 }

@@ -4,7 +4,7 @@ ghost use mathlib.Core.Path.{_≡_};
 ghost use Prim.Native.Nat.{ℕ, _≤_, _<_};
 ghost use lib.ListN.{length, getD};
 
-// The words lent: room for 133 nodes, and two words that are too few for another.
+// The words of the table: room for 133 nodes, and two words that are too few for another. Of these a case may lend fewer.
 pub const WORDS: usize = 800;
 
 // The bytes of the output; of these a case may lend fewer.
@@ -16,22 +16,48 @@ pub type Output = [u8; BYTES];
 
 pub type Node = [u64; WIDTH];
 
-// What a word of the table holds before the call: no two the same, and none that these cases write.
-fn held(i: usize) -> u64 {
+// How many words and bytes a case lends.
+pub struct Lent {
+    pub words: usize,
+    pub bytes: usize,
+}
+
+// So many of what there is, or all.
+pub(crate) fn at_most(count: usize, all: usize) -> usize
+    ensures { λ r. ⌜ r ≤ «all» ⌝ }
+{
+    if count < all {
+        return count;
+    }
+    all
+}
+
+// A word of a table whose first ones are cleared; behind these what it holds before the call, no two the same, and none that these cases write.
+fn word_behind(cleared: usize, i: usize) -> u64 {
+    if i < cleared {
+        return 0;
+    }
     std::num::wrapping_sub_u64(12000000000000000000, i as u64)
+}
+
+// A table as a refusal leaves it: so many words, those that were lent, are zero.
+pub(crate) fn cleared_table(cleared: usize) -> Table
+    ensures { λ r. ⌜ 800 ≡ length r ⌝ }
+{
+    let mut table = [0u64; WORDS];
+    let mut i = 0;
+    while i < WORDS {
+        table[i] = word_behind(cleared, i);
+        i += 1;
+    }
+    table
 }
 
 // A table as it is lent.
 pub(crate) fn lent_table() -> Table
     ensures { λ r. ⌜ 800 ≡ length r ⌝ }
 {
-    let mut table = [0u64; WORDS];
-    let mut i = 0;
-    while i < WORDS {
-        table[i] = held(i);
-        i += 1;
-    }
-    table
+    cleared_table(0)
 }
 
 // A table as it is lent, with the words of nodes at its start.

@@ -93,7 +93,7 @@ impl Outcome {
     }
 }
 
-fn print_pair(before: &[u8], a: u64, between: &[u8], b: u64) {
+pub(crate) fn print_pair(before: &[u8], a: u64, between: &[u8], b: u64) {
     io::write_all(STDOUT_FILENO, before);
     io::print_decimal(STDOUT_FILENO, a);
     io::write_all(STDOUT_FILENO, between);

@@ -1,7 +1,7 @@
 -- Steps that only pass or fail.
 use mathlib.Core.Path.{_≡_}
 use mathlib.Core.Bool.{Bool, true, false}
-use Rattle.editor.specs.declared.check.Check.{Check}
+use Rattle.editor.specs.declared.steps.Check.{Check}
 
 abbrev pub CheckIs : Bool → Check → Type 0
 CheckIs b Check.Passed = b ≡ true

@@ -16,13 +16,13 @@ ghost use Rattle.editor.specs.Promise.{Writes};
 ghost use Rattle.editor.specs.Ends.{writingOf, Refuses, Settles};
 ghost use Rattle.editor.specs.Inserting.{Inserts, Finishes};
 
-mod check;
 mod output;
 mod pass;
 mod placing;
 mod rewrite;
 mod shortest;
 mod site;
+mod steps;
 mod texts;
 mod token;
 

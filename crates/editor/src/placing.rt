@@ -1,8 +1,4 @@
 // A pair put into a plan that was read: where it goes, and the plan with it.
-use crate::check::Check;
-use crate::check::new_key;
-use crate::check::shallow;
-use crate::check::two_more;
 use crate::output::copy;
 use crate::pass::pass;
 use crate::rewrite::Change;
@@ -12,6 +8,10 @@ use crate::site::Gap;
 use crate::site::Site;
 use crate::site::array_at;
 use crate::site::gap_at;
+use crate::steps::Check;
+use crate::steps::new_key;
+use crate::steps::shallow;
+use crate::steps::two_more;
 use crate::texts::Texts;
 use crate::texts::pair_texts;
 use crate::token::token;

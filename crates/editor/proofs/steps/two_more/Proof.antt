@@ -1,9 +1,9 @@
--- `editor::check::two_more` meets its contract. Assumes nothing.
+-- `editor::steps::two_more` meets its contract. Assumes nothing.
 use native.Mathlib.Omega.{arith}
 use borrow.Author.Tests.{le-leb, lt-leb}
 use Prim.Native.Nat.{_+_}
-use Rattle.editor.proofs.check.two_more.Statement.{statement}
-use Rattle.editor.proofs.check.two_more.Tie as tie
+use Rattle.editor.proofs.steps.two_more.Statement.{statement}
+use Rattle.editor.proofs.steps.two_more.Tie as tie
 
 returns : tie.Need-returns
 returns c = lt-leb (c .before .args .nodes + 2) (c .before .args .capacity) (omega (arith, c .if1 .taken))

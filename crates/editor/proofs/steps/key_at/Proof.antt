@@ -1,8 +1,8 @@
--- `editor::check::key_at` meets its contract. Assumes nothing.
+-- `editor::steps::key_at` meets its contract. Assumes nothing.
 use Rattle.editor.proofs.WordLaws as laws
 use borrow.Author.Needs.{needs}
-use Rattle.editor.proofs.check.key_at.Statement.{statement}
-use Rattle.editor.proofs.check.key_at.Tie as tie
+use Rattle.editor.proofs.steps.key_at.Statement.{statement}
+use Rattle.editor.proofs.steps.key_at.Tie as tie
 
 mul-k : tie.Need-mul-k
 mul-k c = search needs

@@ -1,10 +1,10 @@
--- `editor::check::shallow` meets its contract. Assumes nothing.
+-- `editor::steps::shallow` meets its contract. Assumes nothing.
 use native.Mathlib.Omega.{arith}
 use borrow.Author.Tests.{lt-ltb, le-ltb}
 use Prim.Native.Nat.{suc}
 use borrow.Author.Needs.{needs}
-use Rattle.editor.proofs.check.shallow.Statement.{statement}
-use Rattle.editor.proofs.check.shallow.Tie as tie
+use Rattle.editor.proofs.steps.shallow.Statement.{statement}
+use Rattle.editor.proofs.steps.shallow.Tie as tie
 
 sub-if1 : tie.Need-sub-if1
 sub-if1 c = search needs

@@ -1,11 +1,11 @@
--- `editor::check::new_key` meets its contract. Assumes nothing.
+-- `editor::steps::new_key` meets its contract. Assumes nothing.
 use native.Mathlib.Omega.{arith}
 use mathlib.Core.Path.{refl, sym, ap, _∙_}
 use Rattle.keys.specs.KeyWords.{sameWords}
 use Rattle.editor.proofs.WordLaws as laws
 use borrow.Author.Needs.{needs}
-use Rattle.editor.proofs.check.new_key.Statement.{statement}
-use Rattle.editor.proofs.check.new_key.Tie as tie
+use Rattle.editor.proofs.steps.new_key.Statement.{statement}
+use Rattle.editor.proofs.steps.new_key.Tie as tie
 
 abbrev Inv-loop : tie.InvT-loop
 Inv-loop source table first count key words node₀ left₀ node left = laws.Walking source key words table first count node left

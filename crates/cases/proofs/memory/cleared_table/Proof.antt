@@ -1,22 +1,22 @@
--- `cases::memory::lent_table` meets its contract. Assumes nothing.
+-- `cases::memory::cleared_table` meets its contract. Assumes nothing.
 use Prim.Native.Nat.{_-_}
 use mathlib.Core.Path.{_≡_}
 use lib.ListN.{length}
 use borrow.Author.Needs.{needs}
-use Rattle.cases.proofs.memory.lent_table.Statement.{statement}
-use Rattle.cases.proofs.memory.lent_table.Tie as tie
+use Rattle.cases.proofs.memory.cleared_table.Statement.{statement}
+use Rattle.cases.proofs.memory.cleared_table.Tie as tie
 
 abbrev Inv-loop : tie.InvT-loop
-Inv-loop table₀ i₀ table i = 800 ≡ length table
+Inv-loop cleared table₀ i₀ table i = 800 ≡ length table
 
 abbrev μ-loop : tie.MeasureT-loop
-μ-loop table₀ i₀ table i = 800 - i
+μ-loop cleared table₀ i₀ table i = 800 - i
 
 loop-holds : tie.Need-loop-holds Inv-loop μ-loop
 loop-holds c = search needs
 
-held-requires : tie.Need-held-requires Inv-loop μ-loop
-held-requires c κs = search needs
+word-behind-requires : tie.Need-word-behind-requires Inv-loop μ-loop
+word-behind-requires c κs = search needs
 
 mul-table : tie.Need-mul-table Inv-loop μ-loop
 mul-table c = search needs
@@ -36,14 +36,14 @@ loop-again c = search needs
 returns : tie.Need-returns Inv-loop μ-loop
 returns c = search needs
 
-pub lent-table-spec : {M : Type 1} → statement M
-lent-table-spec =
+pub cleared-table-spec : {M : Type 1} → statement M
+cleared-table-spec =
     tie.close
     (tie.spec
     Inv-loop
     μ-loop
     loop-holds
-    held-requires
+    word-behind-requires
     mul-table
     array-write-table
     add-i
