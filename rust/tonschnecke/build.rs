@@ -1,4 +1,4 @@
-//! Links the archive under test: `libtonschnecke.a` in `TONSCHNECKE_LIB_DIR`, else in `../build`.
+//! Links the archive: `libtonschnecke.a` in `TONSCHNECKE_LIB_DIR`, else in `../../build`.
 //! A relative folder counts from this file's own.
 
 use std::env;
@@ -6,8 +6,10 @@ use std::path::PathBuf;
 
 fn main() {
     let manifest = PathBuf::from(env::var_os("CARGO_MANIFEST_DIR").expect("set by cargo"));
-    let folder = env::var_os("TONSCHNECKE_LIB_DIR")
-        .map_or_else(|| manifest.join("../build"), |given| manifest.join(given));
+    let folder = env::var_os("TONSCHNECKE_LIB_DIR").map_or_else(
+        || manifest.join("../../build"),
+        |given| manifest.join(given),
+    );
     println!("cargo:rerun-if-env-changed=TONSCHNECKE_LIB_DIR");
     println!(
         "cargo:rerun-if-changed={}",
