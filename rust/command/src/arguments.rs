@@ -186,7 +186,7 @@ fn array(given: &mut Given) -> Result<Array, String> {
             .map_err(|message| format!("--array {}: {message}", path.display())),
         (None, Some(node)) => match number(&node) {
             Some(index) => Ok(Array::Node(index)),
-            None => Err(format!("--node {}: not a number", node.display())),
+            None => Err(format!("--node {}: no number of 64 bits", node.display())),
         },
         (Some(_), Some(_)) => Err("--array and --node exclude each other".into()),
         (None, None) => Err("insert needs --array or --node".into()),
@@ -198,17 +198,17 @@ fn place(text: &OsStr) -> Result<Place, String> {
         Some(index) => Ok(Place::Index(index)),
         None if text == "end" => Ok(Place::End),
         None => Err(format!(
-            "--at {}: neither a number nor the word end",
+            "--at {}: neither a number of 64 bits nor the word end",
             text.display()
         )),
     }
 }
 
-/// Digits alone. A number too large for an index is above every count, as the largest index is.
+/// Digits alone: no sign.
 fn number(text: &OsStr) -> Option<usize> {
     let text = text.to_str()?;
-    let digits = !text.is_empty() && text.bytes().all(|byte| byte.is_ascii_digit());
-    digits.then(|| text.parse().unwrap_or(usize::MAX))
+    let digits = text.bytes().all(|byte| byte.is_ascii_digit());
+    text.parse().ok().filter(|_| digits)
 }
 
 fn destination(

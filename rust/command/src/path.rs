@@ -11,6 +11,16 @@ pub enum Key<'a> {
     String(Cow<'a, [u8]>),
 }
 
+impl Key<'_> {
+    /// How many bytes a string key has.
+    pub fn string_len(&self) -> usize {
+        match self {
+            Key::Integer(_) => 0,
+            Key::String(bytes) => bytes.len(),
+        }
+    }
+}
+
 /// The keys of a path; a message if the text is none.
 pub fn parse(text: &[u8]) -> Result<Vec<Key<'static>>, String> {
     let Some(components) = text.strip_prefix(b"/") else {
@@ -73,7 +83,7 @@ impl fmt::Display for Key<'_> {
         match self {
             Key::Integer(integer) => write!(out, "{integer}"),
             Key::String(bytes) if bytes.is_empty() || integer(bytes).is_some() => {
-                write!(out, "\"{}\"", bytes.escape_ascii())
+                write!(out, "\"{}\"", escape(bytes, plain))
             }
             Key::String(bytes) => out.write_str(&escape(bytes, plain)),
         }

@@ -4,8 +4,11 @@ use crate::escape::{quoted, shortened};
 use crate::path::{display, Key};
 use tonschnecke::{Kind, Node, Nodes, ReferenceTag};
 
-/// How much of a long text is shown at a reference to it; the whole stands where it is named.
-const NAMED_TEXT: usize = 40;
+/// How much of a long text is shown where it does not stand itself.
+const BRIEF_TEXT: usize = 40;
+/// A reference tells the node's index instead of a path with more bytes of string keys: thousands
+/// of references may name one value.
+const LONG_PATH: usize = 1000;
 
 pub struct Plan<'a> {
     nodes: Nodes<'a>,
@@ -67,10 +70,14 @@ impl<'a> Plan<'a> {
 
     /// The path that leads to the value.
     pub fn path(&self, value: usize) -> String {
+        display(&self.keys_to(value))
+    }
+
+    fn keys_to(&self, value: usize) -> Vec<Key<'a>> {
         let steps = std::iter::successors(self.held(value), |(holder, _)| self.held(*holder));
         let mut keys: Vec<_> = steps.map(|(_, key)| key).collect();
         keys.reverse();
-        display(&keys)
+        keys
     }
 
     /// The value that the path leads to; a message that says where it leads no further.
@@ -88,18 +95,23 @@ impl<'a> Plan<'a> {
             Kind::Array { .. } | Kind::Object { .. } => format!("{path} has no key {key}"),
             Kind::Reference { .. } => format!(
                 "{path} has no key {key}: it is {}, and references are not followed",
-                self.describe(container)
+                self.describe_briefly(container)
             ),
             _ => format!(
                 "{path} has no key {key}: it is {}",
-                self.describe(container)
+                self.describe_briefly(container)
             ),
         }
     }
 
-    /// What the node is, in a few words.
+    /// What the node is; its text whole.
     pub fn describe(&self, index: usize) -> String {
         self.described(index, usize::MAX)
+    }
+
+    /// What the node is; a long text is cut.
+    pub fn describe_briefly(&self, index: usize) -> String {
+        self.described(index, BRIEF_TEXT)
     }
 
     fn described(&self, index: usize, text_limit: usize) -> String {
@@ -118,7 +130,7 @@ impl<'a> Plan<'a> {
                 let named = match self.node(node).kind {
                     // The library goes one step; where that leads to an r, this one's path is told.
                     Kind::Reference { tag, node, .. } => self.reference(tag, node),
-                    _ => self.described(node, NAMED_TEXT),
+                    _ => self.describe_briefly(node),
                 };
                 format!("{}, {named}", self.reference(tag, node))
             }
@@ -126,7 +138,14 @@ impl<'a> Plan<'a> {
     }
 
     fn reference(&self, tag: ReferenceTag, node: usize) -> String {
-        format!("{} to {}", tag.letter(), self.path(node))
+        let keys = self.keys_to(node);
+        let length: usize = keys.iter().map(Key::string_len).sum();
+        let named = if length <= LONG_PATH {
+            display(&keys)
+        } else {
+            format!("node {node}")
+        };
+        format!("{} to {named}", tag.letter())
     }
 }
 

@@ -66,7 +66,7 @@ fn no_array(node: usize, plan: &Plan<'_>) -> String {
     if node > last {
         return format!("there is no node {node}; the last is node {last}");
     }
-    let is = plan.describe(node);
+    let is = plan.describe_briefly(node);
     if plan.is_key(node) {
         return format!("node {node} is the key {is}, and no array");
     }
