@@ -1,16 +1,23 @@
-# make: prove every crate, build the archive for C and Rust.  make run: the main job on the example year.
+# make: prove every crate, build the archive for C and Rust and the command.  make run: the main job on the example year.
+# make install PREFIX=/usr/local DESTDIR=: header, archive, pkg-config file and command.  make uninstall: without them.
 # make test: the gate, what CI runs; its last line is 'N passed, 0 failed'.
 # make fuzz SECONDS=600 SEED=7: the library against the independent side for so long.  make bench: nanoseconds a byte beside Rust code.
-.PHONY: all prove archive run test compare fuzz bench clean
+.PHONY: all prove archive command run test compare fuzz bench install uninstall clean
 
 BUILD := $(CURDIR)/build
 CARGO := CARGO_TARGET_DIR=$(BUILD)/cargo TONSCHNECKE_LIB_DIR=$(BUILD) cargo
 # one more than the cores: a prover waits now and then; a small crate's edits take an eighth less time so
 JOBS := $(shell echo $$(($$(nproc) + 1)))
+CFLAGS := -std=c99 -Wall -Wextra -Werror -pedantic
+SANITIZERS := -g -fsanitize=address,undefined -fno-sanitize-recover=all
+PREFIX ?= /usr/local
+DESTDIR ?=
+VERSION := $(shell sed -n 's/^version = "\(.*\)"$$/\1/p' rust/Cargo.toml)
+INSTALLED := bin/tonschnecke lib/libtonschnecke.a include/tonschnecke.h lib/pkgconfig/tonschnecke.pc
 SECONDS ?= 60
 SEED ?= 1
 
-all: prove archive
+all: prove archive command
 
 prove:
 	rt check
@@ -21,18 +28,40 @@ archive:
 	mkdir -p $(BUILD)
 	cp target/staticlib/libtonschnecke.a $(BUILD)/libtonschnecke.a
 
+define BUILD_COMMAND
+$(CARGO) build --quiet --release --manifest-path rust/Cargo.toml
+install -m 755 $(BUILD)/cargo/release/tonschnecke $(BUILD)/tonschnecke
+endef
+
+# the archive inside a program for users
+command: archive
+	$(BUILD_COMMAND)
+
+# for install: what is built already needs no rt
+$(BUILD)/libtonschnecke.a:
+	$(MAKE) archive
+
+$(BUILD)/tonschnecke: | $(BUILD)/libtonschnecke.a
+	$(BUILD_COMMAND)
+
 run:
 	rt check nodes
 	target/bin/nodes < examples/year.plan
 
-# the proved library beside a side written from the specification alone; the program and the C examples as a user runs them
-compare: archive
+# the proved library beside a side written from the specification alone; the programs, the C examples and what is installed as
+# a user runs them. The sanitizers watch the examples' own code; the archive is not built with them.
+compare: archive command
 	rt check nodes
 	tests/nodes.sh $(CURDIR)/target/bin/nodes
 	for example in read canonicalize insert; do \
-		gcc -std=c99 -Wall -Wextra -Werror -pedantic -Iinclude examples/$$example.c $(BUILD)/libtonschnecke.a -o $(BUILD)/$$example && \
-		$(BUILD)/$$example | diff examples/$$example.out - || exit 1; \
+		for checks in '$(SANITIZERS)' ''; do \
+			gcc $(CFLAGS) $$checks -Iinclude examples/$$example.c $(BUILD)/libtonschnecke.a -o $(BUILD)/$$example && \
+			$(BUILD)/$$example > $(BUILD)/$$example.out && \
+			diff examples/$$example.out $(BUILD)/$$example.out || exit 1; \
+		done; \
 	done
+	tests/install.sh
+	$(CARGO) test --quiet --release --manifest-path rust/Cargo.toml
 	$(CARGO) test --quiet --release --manifest-path tests/Cargo.toml
 	$(CARGO) run --quiet --release --manifest-path tests/Cargo.toml --bin differential
 
@@ -46,6 +75,17 @@ bench: archive
 test: compare
 	rt fmt --check
 	RT_JOBS=$(JOBS) rt ci
+
+install: $(BUILD)/libtonschnecke.a $(BUILD)/tonschnecke
+	install -d $(foreach file,$(INSTALLED),"$(DESTDIR)$(PREFIX)/$(dir $(file))")
+	install -m 755 $(BUILD)/tonschnecke "$(DESTDIR)$(PREFIX)/bin/tonschnecke"
+	install -m 644 $(BUILD)/libtonschnecke.a "$(DESTDIR)$(PREFIX)/lib/libtonschnecke.a"
+	install -m 644 include/tonschnecke.h "$(DESTDIR)$(PREFIX)/include/tonschnecke.h"
+	sed 's|@PREFIX@|$(PREFIX)|; s|@VERSION@|$(VERSION)|' tonschnecke.pc.in > $(BUILD)/tonschnecke.pc
+	install -m 644 $(BUILD)/tonschnecke.pc "$(DESTDIR)$(PREFIX)/lib/pkgconfig/tonschnecke.pc"
+
+uninstall:
+	rm -f $(foreach file,$(INSTALLED),"$(DESTDIR)$(PREFIX)/$(file)")
 
 clean:
 	rm -rf target $(BUILD)

@@ -1,0 +1,148 @@
+//! Running the command, and folders to run it in.
+
+use std::ffi::OsStr;
+use std::fs::{self, Permissions};
+use std::io::{ErrorKind, Write};
+use std::os::unix::fs::{MetadataExt, PermissionsExt};
+use std::path::{Path, PathBuf};
+use std::process::{Command, Output, Stdio};
+use std::sync::atomic::{AtomicU32, Ordering};
+
+pub const PROGRAM: &str = env!("CARGO_BIN_EXE_tonschnecke");
+pub const YEAR: &str = concat!(env!("CARGO_MANIFEST_DIR"), "/../../examples/year.plan");
+
+/// What a run left.
+#[derive(Debug, PartialEq, Eq)]
+pub struct Ran {
+    pub status: Option<i32>,
+    pub out: Vec<u8>,
+    pub error: String,
+}
+
+impl Ran {
+    pub fn new(output: Output) -> Ran {
+        Ran {
+            status: output.status.code(),
+            out: output.stdout,
+            error: String::from_utf8(output.stderr).expect("messages are UTF-8"),
+        }
+    }
+
+    /// Accepted, with these bytes.
+    pub fn gives(&self, out: impl AsRef<[u8]>) {
+        let shown = String::from_utf8_lossy(&self.out);
+        assert_eq!((self.status, self.error.as_str()), (Some(0), ""));
+        assert_eq!(shown, String::from_utf8_lossy(out.as_ref()));
+        assert_eq!(self.out, out.as_ref());
+    }
+
+    /// Ended with this status, this text on standard error and nothing on standard output.
+    pub fn fails(&self, status: i32, error: &str) {
+        assert_eq!((self.status, self.error.as_str()), (Some(status), error));
+        assert_eq!(self.out, b"");
+    }
+}
+
+pub fn command<S: AsRef<OsStr>>(arguments: impl IntoIterator<Item = S>) -> Command {
+    let mut command = Command::new(PROGRAM);
+    command.args(arguments).stdin(Stdio::null());
+    command
+}
+
+/// Runs with nothing on standard input.
+pub fn run<S: AsRef<OsStr>>(arguments: impl IntoIterator<Item = S>) -> Ran {
+    Ran::new(command(arguments).output().expect("it starts"))
+}
+
+/// Runs with these bytes on standard input.
+pub fn pipe<S: AsRef<OsStr>>(source: &[u8], arguments: impl IntoIterator<Item = S>) -> Ran {
+    let mut child = command(arguments)
+        .stdin(Stdio::piped())
+        .stdout(Stdio::piped())
+        .stderr(Stdio::piped())
+        .spawn()
+        .expect("it starts");
+    let mut input = child.stdin.take().expect("a pipe");
+    match input.write_all(source) {
+        // It need not read all that it refuses.
+        Err(error) if error.kind() == ErrorKind::BrokenPipe => {}
+        outcome => outcome.expect("it reads"),
+    }
+    drop(input);
+    Ran::new(child.wait_with_output().expect("it ends"))
+}
+
+pub fn is_root() -> bool {
+    fs::metadata("/proc/self").expect("a process").uid() == 0
+}
+
+/// Runs as someone whom file permissions bind, which they do not for root.
+pub fn run_bound<S: AsRef<OsStr>>(folder: &Folder, arguments: impl IntoIterator<Item = S>) -> Ran {
+    if !is_root() {
+        return run(arguments);
+    }
+    // The build's own folder may be closed to others.
+    let program = folder.path("program");
+    fs::copy(PROGRAM, &program).expect("a copy");
+    let output = Command::new("setpriv")
+        .args(["--reuid=65534", "--regid=65534", "--clear-groups", "--"])
+        .arg(program)
+        .args(arguments)
+        .stdin(Stdio::null())
+        .output();
+    Ran::new(output.expect("setpriv starts"))
+}
+
+/// A folder for one test, gone with it.
+pub struct Folder(PathBuf);
+
+impl Folder {
+    pub fn new() -> Folder {
+        static COUNT: AtomicU32 = AtomicU32::new(0);
+        let count = COUNT.fetch_add(1, Ordering::Relaxed);
+        let name = format!("tonschnecke-test-{}-{count}", std::process::id());
+        let folder = std::env::temp_dir().join(name);
+        fs::create_dir(&folder).expect("a folder of its own");
+        fs::set_permissions(&folder, Permissions::from_mode(0o755)).expect("its owner");
+        Folder(folder)
+    }
+
+    pub fn path(&self, name: &str) -> PathBuf {
+        self.0.join(name)
+    }
+
+    /// A file with this content.
+    pub fn file(&self, name: &str, content: impl AsRef<[u8]>) -> PathBuf {
+        let file = self.path(name);
+        fs::write(&file, content).expect("a file");
+        file
+    }
+
+    /// A folder in it.
+    pub fn folder(&self, name: &str) -> PathBuf {
+        let folder = self.path(name);
+        fs::create_dir(&folder).expect("a folder");
+        folder
+    }
+}
+
+impl Drop for Folder {
+    fn drop(&mut self) {
+        fs::remove_dir_all(&self.0).expect("nothing else is in it");
+    }
+}
+
+pub fn set_mode(file: &Path, mode: u32) {
+    fs::set_permissions(file, Permissions::from_mode(mode)).expect("its owner");
+}
+
+/// The names in a folder, hidden ones too.
+pub fn names(folder: &Path) -> Vec<String> {
+    let entries = fs::read_dir(folder).expect("a folder");
+    let mut names: Vec<String> = entries
+        .map(|entry| entry.expect("an entry").file_name())
+        .map(|name| name.into_string().expect("UTF-8"))
+        .collect();
+    names.sort();
+    names
+}

@@ -1,0 +1,124 @@
+//! Arguments that are not understood, and paths that lead nowhere.
+
+use crate::run::{command, pipe, run, Folder, Ran, YEAR};
+
+/// Arguments, parted by spaces, and what is said of them.
+const MISTAKES: [(&str, &str); 29] = [
+    ("", "a subcommand is missing"),
+    ("--", "a subcommand is missing"),
+    ("list", "unknown subcommand list"),
+    ("show a b", "one FILE is enough; what is b?"),
+    ("show -- a -o", "one FILE is enough; what is -o?"),
+    ("show --all", "unknown option --all"),
+    ("show -x", "unknown option -x"),
+    ("show -ofile", "unknown option -ofile"),
+    ("show -o=file", "unknown option -o=file"),
+    ("show --all=x", "unknown option --all=x"),
+    ("show -o", "-o needs a value"),
+    ("insert --at", "--at needs a value"),
+    ("show -o a -o b", "-o is given twice"),
+    ("insert --at=1 --at 1", "--at is given twice"),
+    (
+        "canonical --in-place a --in-place",
+        "--in-place is given twice",
+    ),
+    ("show --help=x", "--help takes no value"),
+    ("canonical --in-place=a", "--in-place takes no value"),
+    ("show --in-place a", "show takes no --in-place"),
+    ("nodes --in-place a", "nodes takes no --in-place"),
+    ("canonical --array /", "canonical takes no --array"),
+    ("nodes --key i:1;", "nodes takes no --key"),
+    ("canonical --in-place", "--in-place needs a FILE"),
+    ("canonical --in-place -", "--in-place needs a FILE"),
+    (
+        "canonical a --in-place -o b",
+        "--in-place and -o exclude each other",
+    ),
+    (
+        "insert --array=/ --key=i:1; --value=N;",
+        "insert needs --at",
+    ),
+    ("insert --array=/ --at=0 --value=N;", "insert needs --key"),
+    ("insert --array=/ --at=0 --key=i:1;", "insert needs --value"),
+    (
+        "insert --at=0 --key=i:1; --value=N;",
+        "insert needs --array or --node",
+    ),
+    (
+        "insert --array=/ --node=0 --at=0",
+        "--array and --node exclude each other",
+    ),
+];
+
+/// An option of inserting, its unfit value, and what is said of them.
+const UNFIT: [(&str, &str, &str); 10] = [
+    ("--node", "x", "no number of 64 bits"),
+    ("--node", "-1", "no number of 64 bits"),
+    ("--node", "", "no number of 64 bits"),
+    ("--at", "+1", "neither a number of 64 bits nor the word end"),
+    ("--at", "18446744073709551616", "neither a number of 64 bits nor the word end"),
+    ("--at", "End", "neither a number of 64 bits nor the word end"),
+    ("--array", "months", "a path begins with /"),
+    ("--array", "/a//", "a path has no empty component; the empty string key is \"\""),
+    ("--array", "/a%2", "in a path, two hexadecimal digits follow each %"),
+    (
+        "--array",
+        "/\"a",
+        "in a path, double quotes stand around a whole component; inside it, a quote is %22 and a slash %2F",
+    ),
+];
+
+fn mistaken(arguments: &[&str], message: &str) {
+    let error = format!("tonschnecke: {message}\nTry 'tonschnecke --help'.\n");
+    run(arguments).fails(2, &error);
+}
+
+#[test]
+fn mistakes_are_told() {
+    for (arguments, message) in MISTAKES {
+        mistaken(&arguments.split_whitespace().collect::<Vec<_>>(), message);
+    }
+}
+
+#[test]
+fn unfit_values_are_told() {
+    for (option, value, message) in UNFIT {
+        let fit: &[&str] = match option {
+            "--at" => &["--node=0"],
+            _ => &["--at=0"],
+        };
+        let arguments = [&["insert", "--key=i:1;", "--value=N;", option, value], fit].concat();
+        mistaken(&arguments, &format!("{option} {value}: {message}"));
+    }
+}
+
+#[test]
+fn paths_that_lead_nowhere() {
+    let cases = [
+        ("/week", "/ has no key week"),
+        ("/months/13", "/months has no key 13"),
+        ("/months/13/1", "/months has no key 13"),
+        ("/months/\"1\"", "/months has no key \"1\""),
+        ("/year/a%20b", "/year has no key a%20b: it is 2024"),
+        (
+            "/months/1/24/x",
+            "/months/1/24 has no key x: it is R to /months/1/2, 10.4, and references are not followed",
+        ),
+    ];
+    for (path, message) in cases {
+        let rest = ["--at=end", "--key=i:1;", "--value=N;"];
+        let ran = run(["insert", YEAR, "--array", path].into_iter().chain(rest));
+        ran.fails(2, &format!("tonschnecke: {message}\n"));
+    }
+}
+
+#[test]
+fn two_dashes_end_the_options() {
+    let folder = Folder::new();
+    folder.file("-o", "N;");
+    let output = command(["show", "--", "-o"])
+        .current_dir(folder.path(""))
+        .output();
+    Ran::new(output.unwrap()).gives("/: null\n");
+    pipe(b"N;", ["--", "show"]).gives("/: null\n");
+}

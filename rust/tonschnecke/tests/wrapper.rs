@@ -1,0 +1,139 @@
+//! The wrapper's own part: numbers turned into types, and room that suffices.
+
+use tonschnecke::{
+    insert, read, table_words, Insertion, Kind, Node, Nodes, Reading, Reason, ReferenceTag,
+    Refusal, NODE_WORDS, SOURCE_LIMIT,
+};
+
+/// Reads into a table that is said to suffice.
+fn table_of(source: &[u8]) -> (Vec<u64>, Result<Reading, Refusal>) {
+    let mut table = vec![0; table_words(source.len())];
+    let answer = read(source, &mut table);
+    (table, answer)
+}
+
+#[test]
+fn every_kind_is_decoded() {
+    let source = br#"O:3:"Day":6:{s:1:"i";i:-7;s:1:"d";d:.5;s:1:"b";b:1;s:1:"a";a:1:{i:0;N;}s:1:"r";r:1;s:1:"R";R:5;}"#;
+    let (table, answer) = table_of(source);
+    assert_eq!(
+        answer,
+        Ok(Reading {
+            nodes: 15,
+            ordinals: 7
+        })
+    );
+    let nodes = Nodes::new(source, &table);
+    let kinds = [
+        Kind::Object {
+            class_name: b"Day",
+            count: 6,
+        },
+        Kind::String(b"i"),
+        Kind::Integer(-7),
+        Kind::String(b"d"),
+        Kind::Float(b".5"),
+        Kind::String(b"b"),
+        Kind::Bool(true),
+        Kind::String(b"a"),
+        Kind::Array { count: 1 },
+        Kind::Integer(0),
+        Kind::Null,
+        Kind::String(b"r"),
+        Kind::Reference {
+            tag: ReferenceTag::Small,
+            ordinal: 1,
+            node: 0,
+        },
+        Kind::String(b"R"),
+        Kind::Reference {
+            tag: ReferenceTag::Capital,
+            ordinal: 5,
+            node: 8,
+        },
+    ];
+    let ordinals = [1, 0, 2, 0, 3, 0, 4, 0, 5, 0, 6, 0, 7, 0, 0];
+    for (index, (kind, ordinal)) in kinds.into_iter().zip(ordinals).enumerate() {
+        let end = match index {
+            0 => 15,
+            8 => 11,
+            _ => index + 1,
+        };
+        let ordinal = (ordinal != 0).then_some(ordinal);
+        assert_eq!(nodes.get(index), Some(Node { kind, ordinal, end }));
+    }
+    assert_eq!(nodes.get(15), None);
+}
+
+#[test]
+fn words_that_stand_for_no_node_are_none() {
+    for words in [
+        [0; NODE_WORDS],
+        [67, 1, 0, 0, 0, 1],
+        [115, 1, 5, 6, 0, 1],
+        [115, 1, u64::MAX, 1, 0, 1],
+        [256 + 78, 1, 0, 0, 0, 1],
+    ] {
+        assert_eq!(Node::decode(&words, b"s:0:\"\";abc"), None, "{words:?}");
+    }
+}
+
+#[test]
+fn reasons_have_the_numbers_1_to_14() {
+    let codes: Vec<u64> = Reason::ALL.into_iter().map(Reason::code).collect();
+    assert_eq!(codes, (1..=14).collect::<Vec<u64>>());
+    for reason in Reason::ALL {
+        assert_eq!(Reason::from_code(reason.code()), Some(reason));
+    }
+    assert_eq!(Reason::from_code(15), None);
+}
+
+#[test]
+fn a_refusal_says_number_position_and_sentence() {
+    let refusal = table_of(b"a:1:{i:0;r:2;}").1.unwrap_err();
+    let sentence = "the reference names a number that no earlier value carries";
+    assert_eq!(refusal.to_string(), format!("refused 6 at 9: {sentence}"));
+}
+
+#[test]
+fn short_sources_have_room() {
+    let bytes = b"NbidsaOrR0:;{}\"";
+    let pairs = bytes
+        .iter()
+        .flat_map(|&first| bytes.iter().map(move |&second| [first, second]));
+    for [first, second] in pairs {
+        for source in [
+            &[first][..],
+            &[first, second],
+            &[b'a', b':', b'1', b':', b'{', first, second],
+        ] {
+            if let Err(refusal) = table_of(source).1 {
+                assert_ne!(refusal.reason, Reason::TableFull, "{source:?}");
+            }
+        }
+    }
+    assert_eq!(table_of(b"").1.unwrap_err().reason, Reason::Malformed);
+}
+
+#[test]
+fn the_longest_source_has_room_for_a_pair_more() {
+    let mut pairs = String::new();
+    let mut count = 0;
+    while pairs.len() < SOURCE_LIMIT - 50 {
+        pairs += &format!("i:{count};N;");
+        count += 1;
+    }
+    let source = format!("a:{count}:{{{pairs}}}");
+    let insertion = Insertion {
+        array_node: 0,
+        pair_index: count,
+        key: b"s:0:\"\";",
+        value: b"N;",
+    };
+    let mut table = vec![0; table_words(source.len())];
+    let mut out = vec![0; SOURCE_LIMIT];
+    let length = insert(source.as_bytes(), insertion, &mut table, &mut out).unwrap();
+    assert_eq!(Nodes::new(&out[..length], &table).len(), 2 * count + 3);
+    assert_eq!(table_words(SOURCE_LIMIT + 1), table_words(SOURCE_LIMIT));
+    assert_eq!(table_words(usize::MAX), table_words(SOURCE_LIMIT));
+}
