@@ -10,6 +10,22 @@ const AROUND: usize = 20;
 /// So many bytes are shown of a text that was given.
 const TEXT: usize = 60;
 
+/// The form of each kind's text.
+const FORMS: [(u8, &str); 9] = [
+    (b'N', "N;"),
+    (b'b', "b:0; or b:1;"),
+    (b'i', "i:INTEGER;"),
+    (b'd', "d:FLOAT;"),
+    (b's', "s:LENGTH:\"BYTES\"; with so many bytes"),
+    (b'a', "a:COUNT:{PAIRS} with so many pairs"),
+    (
+        b'O',
+        "O:LENGTH:\"CLASS\":COUNT:{PAIRS} with so many bytes and pairs",
+    ),
+    (b'r', "r:NUMBER;"),
+    (b'R', "R:NUMBER;"),
+];
+
 /// A plan that reading refused.
 pub fn of_plan(refusal: Refusal, source: &[u8]) -> Failure {
     let shown = match refusal.reason {
@@ -17,7 +33,25 @@ pub fn of_plan(refusal: Refusal, source: &[u8]) -> Failure {
         Reason::SourceTooLong => String::new(),
         _ => excerpt(source, refusal.at),
     };
-    Failure::Refused(format!("{refusal}{shown}"))
+    let what = wrong_with_plan(refusal, source);
+    refused(refusal, &format!("{what}{shown}"))
+}
+
+fn refused(Refusal { reason, at }: Refusal, what: &str) -> Failure {
+    Failure::Refused(format!("refused {} at {at}: {what}", reason.code()))
+}
+
+fn wrong_with_plan(refusal: Refusal, source: &[u8]) -> String {
+    if refusal.reason != Reason::Malformed {
+        return refusal.reason.to_string();
+    }
+    let Some(tag) = source.get(refusal.at) else {
+        return "the plan ends where a value or a key is due".into();
+    };
+    match FORMS.iter().find(|(letter, _)| letter == tag) {
+        Some((_, form)) => format!("the text that begins here is not of the form {form}"),
+        None => refusal.reason.to_string(),
+    }
 }
 
 /// The bytes around a position, and a caret under it.
@@ -31,13 +65,13 @@ fn excerpt(source: &[u8], at: usize) -> String {
 
 /// An insertion refused though its plan was read.
 pub fn of_insertion(refusal: Refusal, insertion: Insertion<'_>, plan: &Plan<'_>) -> Failure {
-    let code = refusal.reason.code();
-    let at = refusal.at;
-    let what = explain(refusal.reason, insertion, plan);
-    Failure::Refused(format!("refused {code} at {at}: {what}"))
+    refused(
+        refusal,
+        &wrong_with_insertion(refusal.reason, insertion, plan),
+    )
 }
 
-fn explain(reason: Reason, insertion: Insertion<'_>, plan: &Plan<'_>) -> String {
+fn wrong_with_insertion(reason: Reason, insertion: Insertion<'_>, plan: &Plan<'_>) -> String {
     let node = insertion.array_node;
     match reason {
         Reason::NoArray => no_array(node, plan),

@@ -12,54 +12,49 @@ fn table_of(source: &[u8]) -> (Vec<u64>, Result<Reading, Refusal>) {
     (table, answer)
 }
 
-#[test]
-fn every_kind_is_decoded() {
-    let source = br#"O:3:"Day":6:{s:1:"i";i:-7;s:1:"d";d:.5;s:1:"b";b:1;s:1:"a";a:1:{i:0;N;}s:1:"r";r:1;s:1:"R";R:5;}"#;
-    let (table, answer) = table_of(source);
-    assert_eq!(
-        answer,
-        Ok(Reading {
-            nodes: 15,
-            ordinals: 7
-        })
-    );
-    let nodes = Nodes::new(source, &table);
-    let kinds = [
+const DAY: &[u8] = br#"O:3:"Day":6:{s:1:"i";i:-7;s:1:"d";d:.5;s:1:"b";b:1;s:1:"a";a:1:{i:0;N;}s:1:"r";r:1;s:1:"R";R:5;}"#;
+
+const fn reference(tag: ReferenceTag, ordinal: usize, node: usize) -> Kind<'static> {
+    Kind::Reference { tag, ordinal, node }
+}
+
+/// The kinds of the day's nodes, with the ordinals that they took.
+const KINDS: [(Kind, Option<usize>); 15] = [
+    (
         Kind::Object {
             class_name: b"Day",
             count: 6,
         },
-        Kind::String(b"i"),
-        Kind::Integer(-7),
-        Kind::String(b"d"),
-        Kind::Float(b".5"),
-        Kind::String(b"b"),
-        Kind::Bool(true),
-        Kind::String(b"a"),
-        Kind::Array { count: 1 },
-        Kind::Integer(0),
-        Kind::Null,
-        Kind::String(b"r"),
-        Kind::Reference {
-            tag: ReferenceTag::Small,
-            ordinal: 1,
-            node: 0,
-        },
-        Kind::String(b"R"),
-        Kind::Reference {
-            tag: ReferenceTag::Capital,
-            ordinal: 5,
-            node: 8,
-        },
-    ];
-    let ordinals = [1, 0, 2, 0, 3, 0, 4, 0, 5, 0, 6, 0, 7, 0, 0];
-    for (index, (kind, ordinal)) in kinds.into_iter().zip(ordinals).enumerate() {
+        Some(1),
+    ),
+    (Kind::String(b"i"), None),
+    (Kind::Integer(-7), Some(2)),
+    (Kind::String(b"d"), None),
+    (Kind::Float(b".5"), Some(3)),
+    (Kind::String(b"b"), None),
+    (Kind::Bool(true), Some(4)),
+    (Kind::String(b"a"), None),
+    (Kind::Array { count: 1 }, Some(5)),
+    (Kind::Integer(0), None),
+    (Kind::Null, Some(6)),
+    (Kind::String(b"r"), None),
+    (reference(ReferenceTag::Small, 1, 0), Some(7)),
+    (Kind::String(b"R"), None),
+    (reference(ReferenceTag::Capital, 5, 8), None),
+];
+
+#[test]
+fn every_kind_is_decoded() {
+    let (table, answer) = table_of(DAY);
+    let (nodes, ordinals) = (15, 7);
+    assert_eq!(answer, Ok(Reading { nodes, ordinals }));
+    let nodes = Nodes::new(DAY, &table);
+    for (index, (kind, ordinal)) in KINDS.into_iter().enumerate() {
         let end = match index {
             0 => 15,
             8 => 11,
             _ => index + 1,
         };
-        let ordinal = (ordinal != 0).then_some(ordinal);
         assert_eq!(nodes.get(index), Some(Node { kind, ordinal, end }));
     }
     assert_eq!(nodes.get(15), None);

@@ -11,53 +11,38 @@ fn refused(source: impl AsRef<[u8]>, error: &str) {
     pipe(source.as_ref(), insert).fails(1, error);
 }
 
+/// A plan, and what is said of it.
+const PLANS: [(&str, &str); 17] = [
+    ("", "refused 2 at 0: the plan ends where a value or a key is due\n  \n  ^\n"),
+    ("a:1:{i:0;", "refused 2 at 9: the plan ends where a value or a key is due\n  a:1:{i:0;\n           ^\n"),
+    ("N", "refused 2 at 0: the text that begins here is not of the form N;\n  N\n  ^\n"),
+    ("b:2;", "refused 2 at 0: the text that begins here is not of the form b:0; or b:1;\n  b:2;\n  ^\n"),
+    ("i:;", "refused 2 at 0: the text that begins here is not of the form i:INTEGER;\n  i:;\n  ^\n"),
+    ("d:.;", "refused 2 at 0: the text that begins here is not of the form d:FLOAT;\n  d:.;\n  ^\n"),
+    ("s:2:\"a\";", "refused 2 at 0: the text that begins here is not of the form s:LENGTH:\"BYTES\"; with so many bytes\n  s:2:\"a\";\n  ^\n"),
+    ("a:0:{N;}", "refused 2 at 0: the text that begins here is not of the form a:COUNT:{PAIRS} with so many pairs\n  a:0:{N;}\n  ^\n"),
+    ("O:1:\"P\"", "refused 2 at 0: the text that begins here is not of the form O:LENGTH:\"CLASS\":COUNT:{PAIRS} with so many bytes and pairs\n  O:1:\"P\"\n  ^\n"),
+    ("r:-1;", "refused 2 at 0: the text that begins here is not of the form r:NUMBER;\n  r:-1;\n  ^\n"),
+    ("R1;", "refused 2 at 0: the text that begins here is not of the form R:NUMBER;\n  R1;\n  ^\n"),
+    ("C:1:\"X\":0:{}", "refused 3 at 0: a value begins with one of N b i d s a O r R\n  C:1:\"X\":0:{}\n  ^\n"),
+    ("a:2:{i:0;N;}", "refused 4 at 11: a key begins with i or s in an array, and with s in an object\n  a:2:{i:0;N;}\n             ^\n"),
+    ("i:9223372036854775808;", "refused 5 at 0: the integer has more than 64 bits, or the number is above 65,536\n  i:922337203685477580...\n  ^\n"),
+    ("a:1:{i:0;R:2;}", "refused 6 at 9: the reference names a number that no earlier value carries\n  a:1:{i:0;R:2;}\n           ^\n"),
+    ("a:2:{i:5;N;i:05;N;}", "refused 9 at 11: the container has this key already\n  a:2:{i:5;N;i:05;N;}\n             ^\n"),
+    ("N;\n", "refused 10 at 2: bytes follow the value (a newline at the end is one, too)\n  N;%0A\n    ^\n"),
+];
+
 #[test]
 fn of_a_plan() {
-    refused(
-        vec![b'x'; 65_537],
-        "refused 1 at 0: the plan is longer than 65,536 bytes\n",
-    );
-    let malformed =
-        "the text that begins here is not of its kind's form, or the plan ends too soon";
-    refused("", &format!("refused 2 at 0: {malformed}\n  \n  ^\n"));
-    refused(
-        "a:1:{i:0;",
-        &format!("refused 2 at 9: {malformed}\n  a:1:{{i:0;\n           ^\n"),
-    );
-    refused(
-        "b:2;",
-        &format!("refused 2 at 0: {malformed}\n  b:2;\n  ^\n"),
-    );
-    let value_tag = "a value begins with one of N b i d s a O r R";
-    refused(
-        "C:1:\"X\":0:{}",
-        &format!("refused 3 at 0: {value_tag}\n  C:1:\"X\":0:{{}}\n  ^\n"),
-    );
-    let key_tag = "a key begins with i or s in an array, and with s in an object";
-    refused(
-        "a:2:{i:0;N;}",
-        &format!("refused 4 at 11: {key_tag}\n  a:2:{{i:0;N;}}\n             ^\n"),
-    );
-    let range = "the integer has more than 64 bits, or the number is above 65,536";
-    refused(
-        "i:9223372036854775808;",
-        &format!("refused 5 at 0: {range}\n  i:922337203685477580...\n  ^\n"),
-    );
-    let ordinal = "the reference names a number that no earlier value carries";
-    refused(
-        "a:1:{i:0;R:2;}",
-        &format!("refused 6 at 9: {ordinal}\n  a:1:{{i:0;R:2;}}\n           ^\n"),
-    );
-    let equal = "the container has this key already";
-    refused(
-        "a:2:{i:5;N;i:05;N;}",
-        &format!("refused 9 at 11: {equal}\n  a:2:{{i:5;N;i:05;N;}}\n             ^\n"),
-    );
-    let trailing = "bytes follow the value (a newline at the end is one, too)";
-    refused(
-        "N;\n",
-        &format!("refused 10 at 2: {trailing}\n  N;%0A\n    ^\n"),
-    );
+    for (source, error) in PLANS {
+        refused(source, error);
+    }
+}
+
+#[test]
+fn of_a_plan_too_long() {
+    let error = "refused 1 at 0: the plan is longer than 65,536 bytes\n";
+    refused(vec![b'x'; 65_537], error);
 }
 
 #[test]
@@ -115,47 +100,29 @@ fn of_a_node_that_is_no_array() {
     );
 }
 
+/// Place, key and value, and what is said of them.
+const REQUESTS: [(&str, &str, &str, &str); 7] = [
+    ("4", "i:9;", "N;", "refused 12 at 0: the place 4 is above the count of /, which is 3\n"),
+    ("0", "d:5;", "N;", "refused 13 at 0: the key is not exactly one i or s\n  d:5;\n"),
+    ("0", "", "x", "refused 13 at 0: the key is not exactly one i or s\n  \n"),
+    ("0", "i:9;", "R:1;", "refused 13 at 0: the value is not exactly one N, b, i, d or s\n  R:1;\n"),
+    ("0", "i:0;", "N;\n", "refused 13 at 0: the value is not exactly one N, b, i, d or s\n  N;%0A\n"),
+    (
+        "0",
+        "i:9;",
+        "0123456789012345678901234567890123456789012345678901234567890",
+        "refused 13 at 0: the value is not exactly one N, b, i, d or s\n  012345678901234567890123456789012345678901234567890123456789...\n",
+    ),
+    ("3", "i:+02;", "N;", "refused 9 at 0: / has this key already\n  i:+02;\n"),
+];
+
 #[test]
 fn of_the_place_and_the_texts() {
     let plan = "a:3:{i:0;d:1.5;i:1;a:1:{i:0;N;}i:2;R:3;}";
-    let refused = |at: &str, key: &str, value: &str, error: &str| {
+    for (at, key, value, error) in REQUESTS {
         let arguments = ["--array", "/", "--at", at, "--key", key, "--value", value];
         insertion_refused(plan, &arguments, error);
-    };
-    refused(
-        "4",
-        "i:9;",
-        "N;",
-        "refused 12 at 0: the place 4 is above the count of /, which is 3\n",
-    );
-    refused(
-        "0",
-        "d:5;",
-        "N;",
-        "refused 13 at 0: the key is not exactly one i or s\n  d:5;\n",
-    );
-    refused(
-        "0",
-        "",
-        "x",
-        "refused 13 at 0: the key is not exactly one i or s\n  \n",
-    );
-    let value = "refused 13 at 0: the value is not exactly one N, b, i, d or s\n";
-    refused("0", "i:9;", "R:1;", &format!("{value}  R:1;\n"));
-    refused("0", "i:0;", "N;\n", &format!("{value}  N;%0A\n"));
-    let long = "y".repeat(70);
-    refused(
-        "0",
-        "i:9;",
-        &long,
-        &format!("{value}  {}...\n", &long[..60]),
-    );
-    refused(
-        "3",
-        "i:+02;",
-        "N;",
-        "refused 9 at 0: / has this key already\n  i:+02;\n",
-    );
+    }
 }
 
 #[test]

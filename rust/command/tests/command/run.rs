@@ -81,9 +81,11 @@ pub fn run_bound<S: AsRef<OsStr>>(folder: &Folder, arguments: impl IntoIterator<
     if !is_root() {
         return run(arguments);
     }
-    // The build's own folder may be closed to others.
+    // The build's own folder may be closed to others. A copy by this process itself could still be
+    // open in a child that another test starts, and would not run then.
     let program = folder.path("program");
-    fs::copy(PROGRAM, &program).expect("a copy");
+    let copied = Command::new("cp").arg(PROGRAM).arg(&program).status();
+    assert!(copied.expect("cp starts").success());
     let output = Command::new("setpriv")
         .args(["--reuid=65534", "--regid=65534", "--clear-groups", "--"])
         .arg(program)
@@ -128,7 +130,8 @@ impl Folder {
 
 impl Drop for Folder {
     fn drop(&mut self) {
-        fs::remove_dir_all(&self.0).expect("nothing else is in it");
+        let removed = fs::remove_dir_all(&self.0);
+        assert!(std::thread::panicking() || removed.is_ok());
     }
 }
 
