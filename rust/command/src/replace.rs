@@ -17,15 +17,15 @@ pub fn replace(file: &Path, fill: impl FnOnce(&mut dyn Write) -> io::Result<()>)
     // Renaming needs no right to write to the old file, but replacing what it says should.
     OpenOptions::new().write(true).open(&target)?;
     let folder = target.parent().expect("a file stands in a folder");
+    // Opened before anything is written, so that only syncing itself can fail behind the renaming.
+    let open_folder = File::open(folder)?;
     let temporary = temporary_name(folder);
-    let outcome = create(&temporary).and_then(|created| {
-        write_like(&metadata, created, fill)
-            .and_then(|()| fs::rename(&temporary, &target))
-            // The first error is the one to tell.
-            .inspect_err(|_| drop(fs::remove_file(&temporary)))
-    });
-    outcome?;
-    File::open(folder)?.sync_all()
+    let created = create(&temporary)?;
+    write_like(&metadata, created, fill)
+        .and_then(|()| fs::rename(&temporary, &target))
+        // The first error is the one to tell.
+        .inspect_err(|_| drop(fs::remove_file(&temporary)))?;
+    open_folder.sync_all()
 }
 
 /// A name that nobody can have taken on purpose: the hasher's keys are random.
