@@ -104,14 +104,13 @@ fn no_array(node: usize, plan: &Plan<'_>) -> String {
     if plan.is_key(node) {
         return format!("node {node} is the key {is}, and no array");
     }
-    let hint = match plan.node(node).kind {
-        Kind::Reference { node: named, .. } => format!(
-            "\n  A reference is not followed; the path of what it names is {}",
-            plan.path(named)
+    let path = plan.path(node);
+    match plan.node(node).kind {
+        Kind::Reference { .. } => format!(
+            "{path} is a reference, and no array\n  It is {is}, and references are not followed"
         ),
-        _ => String::new(),
-    };
-    format!("{} is {is}, and no array{hint}", plan.path(node))
+        _ => format!("{path} is {is}, and no array"),
+    }
 }
 
 /// Which text is unfit, by asking the library with the other one replaced by a fit one.

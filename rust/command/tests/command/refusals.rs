@@ -95,8 +95,8 @@ fn of_a_node_that_is_no_array() {
     );
     refused(
         &["--array", "/months/1/24"],
-        "/months/1/24 is R to /months/1/2, 10.4, and no array\n  \
-         A reference is not followed; the path of what it names is /months/1/2",
+        "/months/1/24 is a reference, and no array\n  \
+         It is R to /months/1/2, 10.4, and references are not followed",
     );
 }
 
