@@ -65,9 +65,8 @@ fn started() -> Option<Php> {
             Some(php)
         }
         Err(error) => {
-            println!(
-                "no PHP to compare with ({error}); `apt-get install php-cli` brings it on Debian"
-            );
+            println!("PHP is left out, it does not start: {error}");
+            println!("`apt-get install php-cli` installs it on Debian and Ubuntu");
             None
         }
     }
