@@ -17,7 +17,7 @@ pub struct Goals {
 impl Goals {
     pub fn note(&mut self, service: Service, plan: &str, times: &Times) {
         if service == Service::Read && plan == LARGEST_LIST {
-            self.list = Some(times.to_peer());
+            self.list = times.to_peer();
         }
         if service == Service::Insert && DAYS.contains(&plan) {
             let highest = self.day.unwrap_or(0.0);

@@ -1,5 +1,5 @@
 //! Measures the library beside a peer in Rust and, where it is installed, PHP, service by service and plan by plan, in
-//! one run: rounds by turns, the median of each.
+//! one run: rounds by turns, the median of the times and of the ratios.
 //!
 //! Before a plan is timed, library and peer are called with memory that holds the same, and must give the same answer
 //! and leave the same memory; PHP must write the same plan. What is timed is not cleared between the calls.
@@ -65,8 +65,7 @@ fn started() -> Option<Php> {
             Some(php)
         }
         Err(error) => {
-            println!("PHP is left out, it does not start: {error}");
-            println!("`apt-get install php-cli` installs it on Debian and Ubuntu");
+            println!("PHP is left out, it does not start ({error}): apt-get install php-cli");
             None
         }
     }
@@ -123,20 +122,19 @@ fn check_php(php: &mut Php, plan: &Plan, service: Service) {
 fn measure(plan: &Plan, service: Service, mut php: Option<&mut Php>, rounds: usize) -> Times {
     let call = call(plan, service);
     let mut memory = Memory::for_call(call);
-    let mut times = [const { Vec::new() }; 3];
+    let mut times = Times::default();
     for _ in 0..rounds {
-        times[0].push(round(sides::library, plan.texts.lent(), call, &mut memory));
-        times[1].push(round(sides::peer, plan.texts.lent(), call, &mut memory));
+        let texts = plan.texts.lent();
+        let library = round(sides::library, texts, call, &mut memory);
+        times.library.push(library);
+        times
+            .peer
+            .push(round(sides::peer, texts, call, &mut memory));
         if let Some(php) = &mut php {
-            times[2].push(php.round(ROUND).expect("PHP answers"));
+            times.php.push(php.round(ROUND).expect("PHP answers"));
         }
     }
-    let [library, peer, in_php] = times.map(median);
-    Times {
-        library: library.expect("a round"),
-        peer: peer.expect("a round"),
-        php: in_php,
-    }
+    times
 }
 
 /// Calls again and again until the time of a round is over; nanoseconds a call.
@@ -151,9 +149,4 @@ fn round(side: Side, texts: Lent, call: Call, memory: &mut Memory) -> f64 {
             return spent.as_nanos() as f64 / f64::from(calls);
         }
     }
-}
-
-fn median(mut times: Vec<f64>) -> Option<f64> {
-    times.sort_by(f64::total_cmp);
-    times.get(times.len() / 2).copied()
 }
