@@ -1,7 +1,8 @@
 # make: prove every crate, build the archive for C and Rust and the command.  make run: the main job on the example year.
 # make install PREFIX=/usr/local DESTDIR=: header, archive, pkg-config file and command.  make uninstall: without them.
 # make test: the gate, what CI runs; its last line is 'N passed, 0 failed'.
-# make fuzz SECONDS=600 SEED=7: the library against the independent side for so long.  make bench: nanoseconds a byte beside Rust code.
+# make fuzz SECONDS=600 SEED=7: the library against the independent side for so long.  make bench: its times beside Rust code's and,
+# where php is installed, PHP's; make bench ROUNDS=1 is a trial in seconds.
 .PHONY: all prove archive command run test compare fuzz bench install uninstall clean
 
 BUILD := $(CURDIR)/build
@@ -69,7 +70,7 @@ fuzz: archive
 	$(CARGO) run --quiet --release --manifest-path tests/Cargo.toml --bin differential -- --seconds $(SECONDS) --seed $(SEED)
 
 bench: archive
-	$(CARGO) run --quiet --profile measure --manifest-path tests/Cargo.toml --bin bench
+	$(CARGO) run --quiet --profile measure --manifest-path tests/Cargo.toml --bin bench $(if $(ROUNDS),-- --rounds $(ROUNDS))
 
 # rt ci comes last: it starts from nothing, and its last line is the verdict
 test: compare

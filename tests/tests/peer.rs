@@ -6,7 +6,7 @@ use tonschnecke_tests::compare;
 use tonschnecke_tests::generate;
 use tonschnecke_tests::lengths;
 use tonschnecke_tests::memory::Setting;
-use tonschnecke_tests::model;
+use tonschnecke_tests::model::{self, WORDS};
 use tonschnecke_tests::random::Random;
 use tonschnecke_tests::sides;
 
@@ -30,6 +30,30 @@ fn peer_and_model_agree() {
         let calls = lengths::around_insertion(&survey, place, to_write, &mut random);
         hold(texts, calls);
     }
+}
+
+/// The set of keys is one for all containers, so that here and there an equal key of another stands in the way. Even
+/// counts would spread them too evenly for that.
+#[test]
+fn keys_of_other_containers_do_not_repeat() {
+    let mut random = Random::new(1);
+    let array = |i: usize| format!("i:{i};{}", keys(random.between(9, 15), "z"));
+    let arrays: String = (0..400).map(array).collect();
+    for last in ["z", "a"] {
+        let plan = format!("a:401:{{{arrays}i:400;{}}}", keys(9, last));
+        let is_accepted = model::read(plan.as_bytes(), plan.len()).is_ok();
+        assert_eq!(is_accepted, last == "z");
+        let calls = vec![Call::read(plan.len() * WORDS)];
+        hold(Lent::plan(plan.as_bytes()), calls);
+    }
+}
+
+/// An array with so many letters for keys, and a last one.
+fn keys(letters: usize, last: &str) -> String {
+    let letters = "abcdefghijklmno"[..letters].split_inclusive(char::is_alphabetic);
+    let keys: Vec<&str> = letters.chain([last]).collect();
+    let pairs: String = keys.iter().map(|key| format!("s:1:\"{key}\";N;")).collect();
+    format!("a:{}:{{{pairs}}}", keys.len())
 }
 
 fn hold(texts: Lent, calls: Vec<Call>) {

@@ -1,4 +1,8 @@
-//! What `src/bin/bench.rs` times: plans that are hard on a reader and an inserter, and a peer to time the library beside.
+//! What `src/bin/bench.rs` times: plans that are hard on a reader and an inserter, a peer in Rust and one in PHP to time
+//! the library beside; and how it tells what it measured.
 
+pub mod goals;
 pub mod peer;
+pub mod php;
 pub mod plans;
+pub mod table;

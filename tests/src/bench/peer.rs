@@ -1,23 +1,28 @@
-//! The peer: a plain reader, retyper and inserter of the same contract, as one would write it by
-//! hand. It reads in one pass, finds the node of an ordinal in a list and equal keys by hash sets.
-//! It proves nothing.
+//! The peer: a reader, retyper and inserter of the same contract, as one would write and tune it by
+//! hand. It reads in one pass, finds the node of an ordinal in a list and equal keys in a hash set
+//! on the stack; it writes by copying whole stretches of the plan. It proves nothing.
 
 mod canonicalize;
 mod digits;
 mod insert;
 mod keys;
+mod splice;
 mod text;
 
 pub use canonicalize::canonicalize;
 pub use insert::insert;
 
 use crate::library::{Reading, Writing};
-use keys::Keys;
+use keys::{Keys, Set};
+use std::ops::Range;
 
 const SOURCE_LIMIT: usize = 65_536;
 const DEPTH_LIMIT: usize = 64;
 /// Words of a node.
 pub const WIDTH: usize = 6;
+
+/// A node.
+type Words = [u64; WIDTH];
 
 /// A refusal's number and position.
 pub struct Refusal {
@@ -39,6 +44,8 @@ pub struct Content {
 pub trait Trace {
     /// The next node's tag stands at `start`.
     fn node(&mut self, _start: usize) {}
+    /// An integer or a number that is not in shortest form.
+    fn odd(&mut self, _numeral: Range<usize>, _value: i64) {}
     /// The container at `node` is at this depth, and its `}` stands at `close`.
     fn container(&mut self, _node: usize, _depth: usize, _close: usize) {}
 }
@@ -48,16 +55,18 @@ impl Trace for () {}
 
 pub struct Reader<'a, T> {
     source: &'a [u8],
-    table: &'a mut [u64],
+    rows: &'a mut [Words],
+    set: &'a mut Set,
     at: usize,
     nodes: usize,
     /// The node that carries each ordinal; ordinals count from 1.
-    carriers: Vec<usize>,
+    carriers: Vec<u32>,
     trace: T,
 }
 
 pub fn read(source: &[u8], table: &mut [u64]) -> Reading {
-    let mut reader = Reader::new(source, table, ());
+    let mut set = Set::default();
+    let mut reader = Reader::new(source, table.as_chunks_mut().0, &mut set, ());
     match reader.plan() {
         Ok(()) => Reading {
             code: 0,
@@ -66,7 +75,7 @@ pub fn read(source: &[u8], table: &mut [u64]) -> Reading {
             ordinals: reader.carriers.len() as u64,
         },
         Err(Refusal { code, at }) => {
-            reader.table.fill(0);
+            table.fill(0);
             Reading {
                 code,
                 at: at as u64,
@@ -99,13 +108,15 @@ fn written(length: usize) -> Writing {
 }
 
 impl<'a, T: Trace> Reader<'a, T> {
-    fn new(source: &'a [u8], table: &'a mut [u64], trace: T) -> Self {
+    fn new(source: &'a [u8], rows: &'a mut [Words], set: &'a mut Set, trace: T) -> Self {
         Reader {
             source,
-            table,
+            rows,
+            set,
             at: 0,
             nodes: 0,
-            carriers: Vec::new(),
+            // One of each pair, which has six bytes or more, and the plan's own.
+            carriers: Vec::with_capacity(source.len().min(SOURCE_LIMIT) / 6 + 1),
             trace,
         }
     }
@@ -121,6 +132,8 @@ impl<'a, T: Trace> Reader<'a, T> {
         Ok(())
     }
 
+    /// Inlined, so that a container reads what is plain in its own loop and only containers are calls.
+    #[inline(always)]
     fn value(&mut self, depth: usize) -> Step<()> {
         let tag = self.tag()?;
         let start = self.at;
@@ -140,13 +153,14 @@ impl<'a, T: Trace> Reader<'a, T> {
             b'r' | b'R' => self.reference(tag, start),
             _ => {
                 let content = self.scalar(tag, start)?;
-                self.carriers.push(self.nodes);
-                self.put(tag, self.carriers.len(), content);
+                let ordinal = self.take_ordinal();
+                self.put(tag, ordinal, content);
                 Ok(())
             }
         }
     }
 
+    #[inline(always)]
     fn scalar(&mut self, tag: u8, start: usize) -> Step<Content> {
         match tag {
             b'N' => self.null(start),
@@ -167,12 +181,7 @@ impl<'a, T: Trace> Reader<'a, T> {
         else {
             return refused(6, start);
         };
-        let ordinal = if tag == b'r' {
-            self.carriers.push(self.nodes);
-            self.carriers.len()
-        } else {
-            0
-        };
+        let ordinal = if tag == b'r' { self.take_ordinal() } else { 0 };
         let content = Content {
             content: named as u64,
             size: 0,
@@ -182,6 +191,7 @@ impl<'a, T: Trace> Reader<'a, T> {
         Ok(())
     }
 
+    #[inline(never)]
     fn container(&mut self, tag: u8, start: usize, depth: usize) -> Step<()> {
         let mut content = Content::default();
         if tag == b'O' {
@@ -193,21 +203,20 @@ impl<'a, T: Trace> Reader<'a, T> {
         self.expect(start, b":{")?;
         content.link = pairs as u64;
         let node = self.nodes;
-        self.carriers.push(node);
-        self.put(tag, self.carriers.len(), content);
-        // A count may promise more pairs than there are bytes.
-        let mut keys = Keys::new(self.nodes, pairs.min(self.source.len() - self.at));
+        let ordinal = self.take_ordinal();
+        self.put(tag, ordinal, content);
+        let mut keys = Keys::new(self.nodes, pairs);
         for _ in 0..pairs {
             self.key(tag, &mut keys)?;
             self.value(depth + 1)?;
         }
         self.expect(start, b"}")?;
         self.trace.container(node, depth, self.at - 1);
-        self.table[node * WIDTH + 5] = self.nodes as u64;
+        self.rows[node][5] = self.nodes as u64;
         Ok(())
     }
 
-    fn key(&mut self, container: u8, keys: &mut Keys<'a>) -> Step<()> {
+    fn key(&mut self, container: u8, keys: &mut Keys) -> Step<()> {
         let tag = self.tag()?;
         let start = self.at;
         if tag != b's' && (tag != b'i' || container == b'O') {
@@ -217,7 +226,7 @@ impl<'a, T: Trace> Reader<'a, T> {
         self.at += 1;
         let content = self.scalar(tag, start)?;
         self.put(tag, 0, content);
-        if keys.repeats(self.source, self.table, self.nodes - 1) {
+        if keys.repeats(self.set, self.source, self.rows, self.nodes - 1) {
             return refused(9, start);
         }
         Ok(())
@@ -232,23 +241,29 @@ impl<'a, T: Trace> Reader<'a, T> {
     }
 
     fn next_node_fits(&mut self, start: usize) -> Step<()> {
-        if self.nodes == self.table.len() / WIDTH {
+        if self.nodes == self.rows.len() {
             return refused(7, start);
         }
         self.trace.node(start);
         Ok(())
     }
 
+    /// For the next node.
+    fn take_ordinal(&mut self) -> usize {
+        self.carriers.push(self.nodes as u32);
+        self.carriers.len()
+    }
+
     fn put(&mut self, tag: u8, ordinal: usize, content: Content) {
-        let first = self.nodes * WIDTH;
+        let node = self.nodes;
         self.nodes += 1;
-        self.table[first..first + WIDTH].copy_from_slice(&[
+        self.rows[node] = [
             u64::from(tag),
             ordinal as u64,
             content.content,
             content.size,
             content.link,
             self.nodes as u64,
-        ]);
+        ];
     }
 }

@@ -11,6 +11,10 @@ const BEFORE_INSERTING: usize = 59_000;
 const MONTHS: usize = 6;
 const JANUARY: usize = 8;
 
+/// Those that a goal is about: the largest list that can be read, and the days put into the year.
+pub const LARGEST_LIST: &str = "list, integer keys from 0";
+pub const DAYS: [&str; 2] = ["year, a day into January", "year, a day behind the last"];
+
 /// A plan and, for inserting, a pair and its place.
 pub struct Plan {
     pub name: &'static str,
@@ -26,10 +30,7 @@ pub fn of(service: Service) -> Vec<Plan> {
         Service::Insert => insertions(),
         _ => vec![
             plan("year, two days in five by R", year()),
-            plan(
-                "list, integer keys from 0",
-                filled(SOURCE_LIMIT, "a", LIST).0,
-            ),
+            plan(LARGEST_LIST, filled(SOURCE_LIMIT, "a", LIST).0),
             plan(
                 "object, string keys",
                 filled(SOURCE_LIMIT, "O:4:\"Plan\"", STRINGS).0,
@@ -48,8 +49,8 @@ pub fn of(service: Service) -> Vec<Plan> {
 
 fn insertions() -> Vec<Plan> {
     vec![
-        day("year, a day into January", JANUARY, 15),
-        day("year, a day behind the last", december(), 31),
+        day(DAYS[0], JANUARY, 15),
+        day(DAYS[1], december(), 31),
         into("list, the middle", LIST, |pairs| pairs / 2),
         into("list, in front", LIST, |_| 0),
         into("string keys, the middle", STRINGS, |pairs| pairs / 2),

@@ -7,16 +7,21 @@ pub struct Digits {
 
 impl Digits {
     /// Made from the last digit on.
-    pub fn of(mut value: u64) -> Self {
+    pub fn of(value: i64) -> Self {
         let mut digits = [0; 20];
         let mut first = digits.len();
+        let mut magnitude = value.unsigned_abs();
         loop {
             first -= 1;
-            digits[first] = b'0' + (value % 10) as u8;
-            value /= 10;
-            if value == 0 {
+            digits[first] = b'0' + (magnitude % 10) as u8;
+            magnitude /= 10;
+            if magnitude == 0 {
                 break;
             }
+        }
+        if value < 0 {
+            first -= 1;
+            digits[first] = b'-';
         }
         Digits { digits, first }
     }

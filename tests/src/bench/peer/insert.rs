@@ -1,26 +1,25 @@
 //! Inserting: the plan is read with the positions of its nodes, the text put together from
 //! stretches of the source, the table moved apart where the pair goes in.
 
-use super::digits::Digits;
-use super::keys::{key_at, keys_between};
-use super::{not_written, refused, written, Reader, Refusal, Step, Trace};
+use super::keys::{key_at, keys_between, Set};
+use super::splice::Splice;
+use super::{not_written, refused, written, Reader, Refusal, Step, Trace, Words};
 use super::{DEPTH_LIMIT, SOURCE_LIMIT, WIDTH};
 use crate::call::{Lent, Place};
 use crate::library::Writing;
-
-type Words = [u64; WIDTH];
+use std::ops::Range;
 
 /// Where the nodes of a plan begin, and what is wanted of the array asked for.
 struct Positions {
     array: usize,
     depth: usize,
     close: usize,
-    starts: Vec<usize>,
+    starts: Vec<u32>,
 }
 
 impl Trace for Positions {
     fn node(&mut self, start: usize) {
-        self.starts.push(start);
+        self.starts.push(start as u32);
     }
 
     fn container(&mut self, node: usize, depth: usize, close: usize) {
@@ -32,7 +31,7 @@ impl Trace for Positions {
 }
 
 pub fn insert(texts: Lent, place: Place, table: &mut [u64], out: &mut [u8]) -> Writing {
-    match attempt(texts, place, table, out) {
+    match attempt(texts, place, table.as_chunks_mut().0, out) {
         Ok(length) => written(length),
         Err(Refusal { code, at }) => {
             table.fill(0);
@@ -41,34 +40,35 @@ pub fn insert(texts: Lent, place: Place, table: &mut [u64], out: &mut [u8]) -> W
     }
 }
 
-fn attempt(texts: Lent, place: Place, table: &mut [u64], out: &mut [u8]) -> Step<usize> {
+fn attempt(texts: Lent, place: Place, rows: &mut [Words], out: &mut [u8]) -> Step<usize> {
     let positions = Positions {
         array: place.array_node,
         depth: 0,
         close: 0,
-        starts: Vec::with_capacity(texts.source.len() / 4),
+        // Two of each pair, which has six bytes or more.
+        starts: Vec::with_capacity(texts.source.len() / 3 + 1),
     };
-    let mut reader = Reader::new(texts.source, table, positions);
+    let mut set = Set::default();
+    let mut reader = Reader::new(texts.source, rows, &mut set, positions);
     reader.plan()?;
     let (nodes, carriers, positions) = (reader.nodes, reader.carriers, reader.trace);
-    let gap = gap(&table[..nodes * WIDTH], place)?;
+    let gap = gap(&rows[..nodes], place)?;
     let pair = (alone(texts.key, b"is"), alone(texts.value, b"Nbids"));
     let (Some(key), Some(value)) = pair else {
         return refused(13, 0);
     };
-    if is_present(&key, texts, table, place.array_node) {
+    if is_present(&key, texts, rows, place.array_node) {
         return refused(9, 0);
     }
     if positions.depth == DEPTH_LIMIT {
         return refused(8, 0);
     }
-    let (rows, _) = table.as_chunks_mut();
     if nodes + 2 > rows.len() {
         return refused(7, 0);
     }
     let edit = Edit {
         texts,
-        ordinal: carriers.partition_point(|&node| node < gap) as u64 + 1,
+        ordinal: carriers.partition_point(|&node| (node as usize) < gap) as u64 + 1,
         gap,
         nodes,
         positions,
@@ -82,14 +82,13 @@ fn attempt(texts: Lent, place: Place, table: &mut [u64], out: &mut [u8]) -> Step
 }
 
 /// The node that the new key takes the place of: the key at that place, or the end of the array.
-fn gap(table: &[u64], place: Place) -> Step<usize> {
-    let (rows, _) = table.as_chunks::<WIDTH>();
+fn gap(rows: &[Words], place: Place) -> Step<usize> {
     match rows.get(place.array_node) {
         Some(&[tag, .., count, end]) if tag == u64::from(b'a') => {
             if place.pair_index as u64 > count {
                 return refused(12, 0);
             }
-            let mut keys = keys_between(place.array_node + 1, end as usize, table);
+            let mut keys = keys_between(place.array_node + 1, end as usize, rows);
             Ok(keys.nth(place.pair_index).unwrap_or(end as usize))
         }
         _ => refused(11, 0),
@@ -99,20 +98,20 @@ fn gap(table: &[u64], place: Place) -> Step<usize> {
 /// The node of a text that is one key or plain value of these kinds.
 fn alone(text: &[u8], tags: &[u8]) -> Option<Words> {
     let tag = *text.first().filter(|tag| tags.contains(tag))?;
-    let mut words = [0; WIDTH];
-    let mut reader = Reader::new(text, &mut words, ());
+    let (mut rows, mut set) = ([[0; WIDTH]], Set::default());
+    let mut reader = Reader::new(text, &mut rows, &mut set, ());
     reader.at = 1;
     let content = reader.scalar(tag, 0).ok()?;
     reader.put(tag, 0, content);
     let whole = reader.at == text.len();
-    whole.then_some(words)
+    whole.then_some(rows[0])
 }
 
-fn is_present(key: &Words, texts: Lent, table: &[u64], array: usize) -> bool {
-    let end = table[array * WIDTH + 5] as usize;
-    let new = key_at(texts.key, key, 0);
-    let mut keys = keys_between(array + 1, end, table);
-    keys.any(|node| key_at(texts.source, table, node) == new)
+fn is_present(key: &Words, texts: Lent, rows: &[Words], array: usize) -> bool {
+    let end = rows[array][5] as usize;
+    let new = key_at(texts.key, &[*key], 0);
+    let mut keys = keys_between(array + 1, end, rows);
+    keys.any(|node| key_at(texts.source, rows, node) == new)
 }
 
 /// An insertion to which only the output may be too small.
@@ -129,11 +128,9 @@ struct Edit<'a> {
 
 impl Edit<'_> {
     fn length(&self, rows: &[Words]) -> usize {
-        let source = self.texts.source;
-        let starts = &self.positions.starts;
         let grown = |node: usize, number: u64| {
-            let old = digits_at(source, starts[node] + 2);
-            Digits::of(number + 1).text().len() as isize - old as isize
+            let old = self.numeral(node);
+            (number + 1).ilog10() as isize + 1 - old.len() as isize
         };
         let array = self.positions.array;
         let mut change = grown(array, rows[array][4]);
@@ -142,8 +139,17 @@ impl Edit<'_> {
                 change += grown(node, row[2]);
             }
         }
-        let length = source.len() + self.texts.key.len() + self.texts.value.len();
+        let length = self.texts.source.len() + self.texts.key.len() + self.texts.value.len();
         length.wrapping_add_signed(change)
+    }
+
+    fn start(&self, node: usize) -> usize {
+        self.positions.starts[node] as usize
+    }
+
+    /// An array's count, or the number that a reference names.
+    fn numeral(&self, node: usize) -> Range<usize> {
+        digits_at(self.texts.source, self.start(node) + 2)
     }
 
     fn is_raised(&self, row: &Words) -> bool {
@@ -151,27 +157,22 @@ impl Edit<'_> {
     }
 
     fn write(&self, rows: &mut [Words], [mut key, mut value]: [Words; 2], out: &mut [u8]) {
-        let Positions {
-            array,
-            close,
-            ref starts,
-            ..
-        } = self.positions;
+        let Positions { array, close, .. } = self.positions;
         for row in &mut rows[..=array] {
             row[5] += if row[5] > array as u64 { 2 } else { 0 };
         }
         rows[array][4] += 1;
         let mut splice = Splice::new(self.texts.source, out);
-        splice.respell(starts[array] + 2, rows[array][4]);
+        splice.respell(self.numeral(array), rows[array][4] as i64);
         for row in &mut rows[array + 1..self.gap] {
             splice.move_text(row);
         }
         let is_last = self.gap as u64 + 2 == rows[array][5];
-        splice.copy(if is_last { close } else { starts[self.gap] });
+        splice.copy(if is_last { close } else { self.start(self.gap) });
         splice.put_node(self.texts.key, &mut key);
         splice.put_node(self.texts.value, &mut value);
         self.raise(&mut rows[..self.nodes], &mut splice);
-        splice.copy(self.texts.source.len());
+        splice.copy_rest();
         rows.copy_within(self.gap..self.nodes, self.gap + 2);
         key[5] = self.gap as u64 + 1;
         value[5] = self.gap as u64 + 2;
@@ -189,71 +190,16 @@ impl Edit<'_> {
             if self.is_raised(row) {
                 row[2] += 1;
                 row[4] += 2;
-                splice.respell(self.positions.starts[node] + 2, row[2]);
+                splice.respell(self.numeral(node), row[2] as i64);
             }
         }
     }
 }
 
-/// The text to be written, as far as it is.
-struct Splice<'s, 'o> {
-    source: &'s [u8],
-    read: usize,
-    out: &'o mut [u8],
-    written: usize,
-}
-
-impl<'s, 'o> Splice<'s, 'o> {
-    fn new(source: &'s [u8], out: &'o mut [u8]) -> Self {
-        Splice {
-            source,
-            read: 0,
-            out,
-            written: 0,
-        }
-    }
-
-    fn put(&mut self, text: &[u8]) {
-        self.out[self.written..][..text.len()].copy_from_slice(text);
-        self.written += text.len();
-    }
-
-    /// Copies the source up to a position.
-    fn copy(&mut self, end: usize) {
-        self.put(&self.source[self.read..end]);
-        self.read = end;
-    }
-
-    /// Copies up to the digits at a position and has another number in their place.
-    fn respell(&mut self, position: usize, number: u64) {
-        self.copy(position);
-        self.put(Digits::of(number).text());
-        self.read += digits_at(self.source, position);
-    }
-
-    /// A text that stands here, and its offset in its node.
-    fn put_node(&mut self, text: &[u8], row: &mut Words) {
-        if has_text(row) {
-            row[2] += self.written as u64;
-        }
-        self.put(text);
-    }
-
-    /// Changes a node's offset by what was put in and left out before it.
-    fn move_text(&self, row: &mut Words) {
-        if has_text(row) {
-            row[2] = row[2] + self.written as u64 - self.read as u64;
-        }
-    }
-}
-
-fn has_text(row: &Words) -> bool {
-    matches!(row[0] as u8, b'd' | b's' | b'O')
-}
-
-fn digits_at(source: &[u8], position: usize) -> usize {
+/// The digits from a position on.
+fn digits_at(source: &[u8], position: usize) -> Range<usize> {
     let run = source[position..]
         .iter()
         .take_while(|byte| byte.is_ascii_digit());
-    run.count()
+    position..position + run.count()
 }

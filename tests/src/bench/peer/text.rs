@@ -3,6 +3,8 @@
 use super::{refused, Content, Reader, Step, Trace};
 
 const NUMBER_LIMIT: u64 = 65_536;
+/// So many digits never have a value that 64 bits do not hold.
+const SAFE_DIGITS: usize = 19;
 
 impl<T: Trace> Reader<'_, T> {
     pub fn expect(&mut self, start: usize, text: &[u8]) -> Step<()> {
@@ -15,19 +17,20 @@ impl<T: Trace> Reader<'_, T> {
 
     /// A run of digits, taken whole before its value is tested.
     fn digits(&mut self, start: usize, limit: u64) -> Step<u64> {
-        let from = self.at;
+        let rest = &self.source[self.at..];
         let mut value: u64 = 0;
-        for &byte in &self.source[from..] {
-            if !byte.is_ascii_digit() {
-                break;
-            }
-            let digit = u64::from(byte - b'0');
-            value = value.saturating_mul(10).saturating_add(digit);
-            self.at += 1;
+        let mut count = 0;
+        while let Some(digit) = rest.get(count).and_then(digit) {
+            value = value.wrapping_mul(10).wrapping_add(digit);
+            count += 1;
         }
-        if self.at == from {
+        if count == 0 {
             return refused(2, start);
         }
+        if count > SAFE_DIGITS {
+            value = saturating(&rest[..count]);
+        }
+        self.at += count;
         if value > limit {
             return refused(5, start);
         }
@@ -35,7 +38,12 @@ impl<T: Trace> Reader<'_, T> {
     }
 
     pub fn number(&mut self, start: usize) -> Step<usize> {
-        Ok(self.digits(start, NUMBER_LIMIT)? as usize)
+        let from = self.at;
+        let value = self.digits(start, NUMBER_LIMIT)?;
+        if self.source[from] == b'0' && self.at - from > 1 {
+            self.trace.odd(from..self.at, value as i64);
+        }
+        Ok(value as usize)
     }
 
     pub fn null(&mut self, start: usize) -> Step<Content> {
@@ -55,19 +63,26 @@ impl<T: Trace> Reader<'_, T> {
 
     pub fn integer(&mut self, start: usize) -> Step<Content> {
         self.expect(start, b":")?;
-        let sign = self.source.get(self.at);
+        let from = self.at;
+        let sign = self.source.get(from);
         let negative = sign == Some(&b'-');
         if negative || sign == Some(&b'+') {
             self.at += 1;
         }
         let limit = i64::MAX as u64 + u64::from(negative);
+        let first = self.at;
         let magnitude = self.digits(start, limit)?;
-        self.expect(start, b";")?;
         let content = if negative {
             magnitude.wrapping_neg()
         } else {
             magnitude
         };
+        let is_signed = first > from;
+        let leads_with_zero = self.source[first] == b'0' && (is_signed || self.at - first > 1);
+        if leads_with_zero || is_signed && !negative {
+            self.trace.odd(from..self.at, content as i64);
+        }
+        self.expect(start, b";")?;
         Ok(Content {
             content,
             ..Content::default()
@@ -77,11 +92,9 @@ impl<T: Trace> Reader<'_, T> {
     pub fn float(&mut self, start: usize) -> Step<Content> {
         self.expect(start, b":")?;
         let from = self.at;
-        let rest = &self.source[from..];
-        let size = rest.iter().position(|&b| b == b';').unwrap_or(rest.len());
-        if !is_float(&rest[..size]) {
+        let Some(size) = float_size(&self.source[from..]) else {
             return refused(2, start);
-        }
+        };
         self.at += size;
         self.expect(start, b";")?;
         Ok(Content {
@@ -110,28 +123,41 @@ impl<T: Trace> Reader<'_, T> {
     }
 }
 
-fn is_float(text: &[u8]) -> bool {
-    if matches!(text, b"INF" | b"-INF" | b"NAN") {
-        return true;
-    }
+fn digit(byte: &u8) -> Option<u64> {
+    let digit = byte.wrapping_sub(b'0');
+    (digit < 10).then_some(digit.into())
+}
+
+/// The value of digits, or the highest that 64 bits hold.
+fn saturating(digits: &[u8]) -> u64 {
+    let digits = digits.iter().filter_map(digit);
+    digits.fold(0, |value: u64, digit| {
+        value.saturating_mul(10).saturating_add(digit)
+    })
+}
+
+/// The length of the float text in front.
+fn float_size(text: &[u8]) -> Option<usize> {
     let (whole, rest) = split_digits(unsigned(text));
     let (fraction, rest) = match rest {
         [b'.', rest @ ..] => split_digits(rest),
         _ => (0, rest),
     };
-    whole + fraction > 0 && is_exponent(rest)
+    if whole + fraction == 0 {
+        let mut words = ["INF", "-INF", "NAN"].into_iter();
+        let word = words.find(|word| text.starts_with(word.as_bytes()))?;
+        return Some(word.len());
+    }
+    Some(text.len() - behind_exponent(rest)?.len())
 }
 
-/// Nothing, or an exponent.
-fn is_exponent(text: &[u8]) -> bool {
-    match text {
-        [] => true,
-        [b'e' | b'E', rest @ ..] => {
-            let (digits, rest) = split_digits(unsigned(rest));
-            digits > 0 && rest.is_empty()
-        }
-        _ => false,
-    }
+/// What follows the exponent in front, if there is one.
+fn behind_exponent(text: &[u8]) -> Option<&[u8]> {
+    let [b'e' | b'E', rest @ ..] = text else {
+        return Some(text);
+    };
+    let (digits, rest) = split_digits(unsigned(rest));
+    (digits > 0).then_some(rest)
 }
 
 fn unsigned(text: &[u8]) -> &[u8] {
