@@ -5,11 +5,11 @@ use native.Mathlib.Omega.{arith}
 use mathlib.Core.Path.{_≡_, refl, sym, ap, ap₂, _∙_, subst}
 use mathlib.Core.List.{List, [], _∷_, _++_}
 use mathlib.Core.Bool.{Bool, true, false}
-use lib.Dec.{leb, leb→le}
+use lib.Dec.{leb, leb→le, not-T}
 use lib.ListN.{length, take, drop, replicate, drop-of-length-le}
 use lib.Seq.{sets, sets-eq, length-sets, take-append-seam}
 use borrow.Author.Tests.{le-leb, lt-leb}
-use Rattle.decimal.proofs.Decide.{T-of, and-left}
+use Rattle.decimal.proofs.Decide.{Order, below, above, order, T-of, T-false, and-left, and-right}
 use Rattle.format.specs.Syntax.{Value, print}
 use Rattle.format.specs.Limits.{sourceLimit}
 use Rattle.format.specs.Answer.{Answer, ok, refused, _>>=_, require}
@@ -18,19 +18,30 @@ use Rattle.format.specs.Canonical.{canonical}
 use Rattle.format.specs.Reading.{cleared, over, tableAfter}
 use Rattle.format.specs.Fits.{IsPlan}
 use Rattle.format.proofs.Inversion.{read-ok}
-use Rattle.format.proofs.NormalForm.{canonical-shorter}
 use Rattle.format.proofs.Results.{after-length}
-use Rattle.editor.specs.Output.{Within, Puts}
-use Rattle.format.specs.Writing.{fitsIn, withRoom}
+use Rattle.format.specs.Writing.{fitsIn, withRoom, canonicalBytes}
 use Rattle.editor.specs.Promise.{answerOf, Writes}
-use Rattle.editor.specs.Ends.{Refuses, Settles}
-use Rattle.editor.specs.Tokens.{Token, tokens, writeTokens}
-use Rattle.editor.specs.Rewriting.{changedText, Stretch, Rewrites}
-use Rattle.editor.specs.declared.rewrite.Change.{Change}
-use Rattle.editor.proofs.TokenLaws.{tokens-write, tokens-canonical, tokens-fit}
+use Rattle.editor.specs.Ends.{Refuses, Settles, Sound}
+use Rattle.tokens.specs.Tokens.{Token, tokens, writeTokens}
+use Rattle.tokens.specs.Between.{Stretch}
+use Rattle.tokens.proofs.TokenLaws.{tokens-write, tokens-canonical, tokens-fit}
+use Rattle.tokens.proofs.Stretches.{between-stretch}
+use Rattle.rewriting.specs.declared.Edit.{Edit}
+use Rattle.rewriting.specs.declared.rewrite.Change.{Change}
+use Rattle.rewriting.specs.Output.{Puts}
+use Rattle.rewriting.specs.Rewriting.{changedText}
+use Rattle.rewriting.specs.Edited.{canonicalText, editedText, writable}
+use Rattle.rewriting.specs.declared.inserted.Spot.{Spot}
+use Rattle.rewriting.proofs.Editable.{Kept, by-place}
+use Rattle.rewriting.proofs.Measures.{texts-inside}
+use Rattle.placing.specs.Locating.{Located}
 use Rattle.editor.specs.declared.Writing.{Writing}
+use Rattle.editor.proofs.Canonicalizing.{by-value}
 
 -- ---- 14
+
+differ : true ≡ false → ⊥
+differ e = let z : _≡_ {A = ℕ} 0 1 = cc in omega arith
 
 pub room-short : (room length : ℕ) → room < length → fitsIn room length ≡ false
 room-short room length h = rw (lt-leb length room h)
@@ -68,9 +79,6 @@ module _ {bytes : List ℕ} {n : ℕ} {part : List ℕ} (measured : Puts bytes 0
 
 -- ---- what is answered and left, the bytes to write being known
 
-pub refuses-as : {c d : ℕ} {t t′ : List ℕ} {r : Writing} → c ≡ d → Refuses c t t′ r → Refuses d t t′ r
-refuses-as {t = t} {t′} {r} e f = subst (λ (n : ℕ). Refuses n t t′ r) e f
-
 module _ {text : Answer (List ℕ)} (source before out : List ℕ) where
   -- the definition's own refusal, with nothing written
   pub writes-refused : {after : List ℕ} {code at : ℕ} → text ≡ refused code at → after ≡ cleared before → Writes text source before after out out (Writing.Refused code at)
@@ -78,9 +86,9 @@ module _ {text : Answer (List ℕ)} (source before out : List ℕ) where
   writes-refused {after} {code} {at} e t =
       subst (λ (c : Answer (List ℕ)). Writes c source before after out out (Writing.Refused code at)) (sym e) (record { answer = refl; leaves = record { table = t; output = refl } })
 
-  -- a refusal at 0, the plan having been read
-  pub writes-refusal : {between after : List ℕ} {code : ℕ} {r : Writing} → between ≡ tableAfter source before → text ≡ refused code 0 → Refuses code between after r → Writes text source before after out out r
-  writes-refusal {between} {after} {code} {r} t e f =
+  -- 14, the plan having been read
+  pub writes-refusal : {between after : List ℕ} {r : Writing} → between ≡ tableAfter source before → text ≡ refused 14 0 → Refuses between after r → Writes text source before after out out r
+  writes-refusal {between} {after} {r} t e f =
       subst (Writes text source before after out out) (sym (f .answer))
       (writes-refused e (f .table ∙ ap (λ (k : ℕ). replicate k 0) (ap length t ∙ after-length source before)))
 
@@ -89,7 +97,7 @@ module _ {text : Answer (List ℕ)} (source before out : List ℕ) where
     roomed b f = e ∙ ap (λ (b : Bool). require b 14 0 >>= λ u. ok bytes) (ap (fitsIn (length out)) (sym (size measured out)) ∙ f)
 
     -- no room: every word is zero, and nothing is written
-    pub writes-14 : {after : List ℕ} {r : Writing} → fitsIn (length out) n ≡ false → Refuses 14 between after r → Writes text source before after out (part ++ out) r
+    pub writes-14 : {after : List ℕ} {r : Writing} → fitsIn (length out) n ≡ false → Refuses between after r → Writes text source before after out (part ++ out) r
     writes-14 {after} {r} f c = subst (λ (o : List ℕ). Writes text source before after out o r) (sym (untouched measured out)) (writes-refusal t (roomed false f) c)
 
     pub writes-text : (f : fitsIn (length out) n ≡ true) {m : ℕ} {out′ : List ℕ} → Puts bytes 0 (part ++ out) m out′ → {after : List ℕ} {r : Writing} → Settles (take n out′) between after r → Writes text source before after out out′ r
@@ -99,6 +107,33 @@ module _ {text : Answer (List ℕ)} (source before out : List ℕ) where
         subst (λ (a : Answer (List ℕ)). Writes a source before after out out′ r) (sym (roomed true f))
         (subst (Writes (ok bytes) source before after out out′) (sym (c .answer ∙ ap (λ (l : List ℕ). Writing.Written (length l)) same))
         (record { answer = refl; leaves = record { table = c .table ∙ ap₂ tableAfter same t; output = written measured out f put } }))
+
+-- ---- an edit
+
+module _ {source : List ℕ} {e : Edit} {key value : List ℕ} (z : Sound source e key value) {text : Answer (List ℕ)} (room : ℕ) (f : text ≡ withRoom room (editedText source e key value)) where
+  too-long : {n : ℕ} → n ≤ length (editedText source e key value) → sourceLimit < n → text ≡ refused 14 0
+  too-long {n} h i =
+      f ∙ ap (λ (b : Bool). require b 14 0 >>= λ u. ok (editedText source e key value))
+      (T-false (fitsIn room (length (editedText source e key value)))
+      (not-T (fitsIn room (length (editedText source e key value))) (λ t.
+      let m : ℕ = length (editedText source e key value) in
+      let j : m ≤ sourceLimit = leb→le m sourceLimit (and-right (leb m room) (leb m sourceLimit) t) in
+      omega arith)))
+
+  -- what is not edited at all has a text that is longer than any plan
+  pub unfit-14 : writable (length source) e (length key) (length value) ≡ false → text ≡ refused 14 0
+  unfit-14 g = by (order sourceLimit (length key)) (order sourceLimit (length value))
+    where
+      by : Order sourceLimit (length key) → Order sourceLimit (length value) → text ≡ refused 14 0
+      by (below h) j = too-long (z .key) h
+      by (above h) (below i) = too-long (z .value) i
+      by (above h) (above i) = absurd (differ (sym (by-place (length source) e (length key) (length value) (z .short) h i ∙ z .place) ∙ g))
+
+module _ {source : List ℕ} {e : Edit} {key value : List ℕ} {text : Answer (List ℕ)} (before out : List ℕ) where
+  pub writes-unfit : Sound source e key value → text ≡ withRoom (length out) (editedText source e key value) → {between : List ℕ} → between ≡ tableAfter source before → {part : List ℕ} → Kept source e key value [] part → {after : List ℕ} {r : Writing} → Refuses between after r
+      → Writes text source before after out (part ++ out) r
+  writes-unfit z f t {part} k {after} {r} c =
+      subst (λ (l : List ℕ). Writes text source before after out (l ++ out) r) (sym (k .same)) (writes-refusal source before out t (unfit-14 z (length out) f (k .unfit)) c)
 
 -- ---- retyping
 
@@ -115,14 +150,17 @@ module _ (capacity : ℕ) (source : List ℕ) (v : Value) (e : read capacity sou
     inside = omega arith;
   }
 
-  canonical-text : changedText Change.Canonical (tokens v) ≡ print (canonical v)
-  canonical-text = ap (λ (ts : List Token). writeTokens ts []) (sym (tokens-canonical v)) ∙ tokens-write (canonical v) []
+  canonical-text : canonicalText source ≡ print (canonical v)
+  canonical-text =
+      ap (changedText Change.Canonical) (between-stretch whole-plan) ∙ ap (λ (ts : List Token). writeTokens ts []) (sym (tokens-canonical v)) ∙ tokens-write (canonical v) []
 
-  canonical-within : Within (changedText Change.Canonical (tokens v)) 0
-  canonical-within = record { low = omega (arith, ap length canonical-text, canonical-shorter v, plan .fits .valid .short) }
+  pub canonical-sound : Sound source Edit.Canonical [] []
+  canonical-sound = record { short = omega (arith, plan .fits .valid .short, ap length (plan .printed)); place = refl; key = omega arith; value = omega arith }
 
-  pub canonical-rewrites : Rewrites source 0 (length source) Change.Canonical 0
-  canonical-rewrites = record { stretch = whole-plan; within = canonical-within }
+  pub canonical-written : (room : ℕ) → canonicalBytes capacity room source ≡ withRoom room (canonicalText source)
+  canonical-written room = by-value capacity room source v e ∙ ap (withRoom room) (sym canonical-text)
 
-  pub canonical-puts : {out out′ : List ℕ} {n : ℕ} → ((g : Stretch source 0 (length source)) → Within (changedText Change.Canonical (g .tokens)) 0 → Puts (changedText Change.Canonical (g .tokens)) 0 out n out′) → Puts (print (canonical v)) 0 out n out′
-  canonical-puts {out} {out′} {n} p = subst (λ (t : List ℕ). Puts t 0 out n out′) canonical-text (p whole-plan canonical-within)
+-- ---- inserting
+
+pub insert-sound : {source : List ℕ} {node place : ℕ} {key value before after : List ℕ} {p : Spot} → Located source node place key value before after p → Sound source (Edit.Insert p) key value
+insert-sound {source} {key = key} {value} {p = p} l = let t = texts-inside source key value p in record { short = l .short; place = l .stands; key = t .0; value = t .1 }

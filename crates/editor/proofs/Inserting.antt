@@ -14,11 +14,11 @@ use Rattle.format.proofs.Results.{after-length}
 use Rattle.format.proofs.Unique.{accepted-exactly}
 use Rattle.insertion.proofs.Inserting.{Inserted, inserted}
 use Rattle.insertion.proofs.Located.{locates}
-use Rattle.editor.specs.Tokens.{Token, scalar, opening, closing, keyScalar, tokens, tokensIn, writeTokens, raisedToken, nodesOf}
-use Rattle.editor.proofs.TokenLaws.{tokens-write}
-use Rattle.editor.proofs.PairParts.{upto, after}
-use Rattle.editor.proofs.Sites.{site-tokens, parts}
-use Rattle.editor.proofs.Gaps.{new-tokens}
+use Rattle.tokens.specs.Tokens.{Token, scalar, opening, closing, keyScalar, tokens, tokensIn, writeTokens, raisedToken, nodesOf}
+use Rattle.tokens.proofs.TokenLaws.{tokens-write}
+use Rattle.placing.proofs.PairParts.{upto, after}
+use Rattle.placing.proofs.Sites.{site-tokens, parts}
+use Rattle.placing.proofs.Gaps.{new-tokens}
 
 -- "All other bytes are the old ones": the tokens of the plan given and of the bytes written. The head is that of the array asked for, and `middle` are its pairs before the place
 pub record Kept {capacity room : ℕ} {source : List ℕ} {node place : ℕ} {key value bytes : List ℕ} (i : Inserted capacity room source node place key value bytes) : Type 0 where

@@ -1,23 +1,35 @@
 -- How a service that writes ends.
 use mathlib.Core.Path.{_≡_}
 use mathlib.Core.List.{List}
-use Prim.Native.Nat.{ℕ}
+use mathlib.Core.Bool.{true}
+use Prim.Native.Nat.{ℕ, _≤_}
 use lib.ListN.{length}
+use Rattle.format.specs.Limits.{sourceLimit}
+use Rattle.format.specs.Answer.{Answer}
 use Rattle.format.specs.Reading.{cleared, tableAfter}
-use Rattle.reader.specs.declared.Reading.{Reading}
+use Rattle.format.specs.Writing.{withRoom}
+use Rattle.rewriting.specs.declared.Edit.{Edit}
+use Rattle.rewriting.specs.Edited.{editedText, placed}
 use Rattle.editor.specs.declared.Writing.{Writing}
+use Rattle.editor.specs.Promise.{Writes}
 
--- reading's refusal, as it stands
-abbrev pub writingOf : Reading → Writing
-writingOf (Reading.Accepted nodes ordinals) = Writing.Written 0
-writingOf (Reading.Refused code at) = Writing.Refused code at
-
--- a refusal at 0
-pub record Refuses (code : ℕ) (t t′ : List ℕ) (r : Writing) : Type 0 where
-  pub answer : r ≡ Writing.Refused code 0
+-- 14, at 0
+pub record Refuses (t t′ : List ℕ) (r : Writing) : Type 0 where
+  pub answer : r ≡ Writing.Refused 14 0
   pub table : t′ ≡ cleared t
 
 -- the bytes written are read
 pub record Settles (bytes t t′ : List ℕ) (r : Writing) : Type 0 where
   pub answer : r ≡ Writing.Written (length bytes)
   pub table : t′ ≡ tableAfter bytes t
+
+-- an edit of a plan that was read: it has its place there, and its texts are part of what is written
+pub record Sound (s : List ℕ) (e : Edit) (k v : List ℕ) : Type 0 where
+  pub short : length s ≤ sourceLimit
+  pub place : placed (length s) e ≡ true
+  pub key : length k ≤ length (editedText s e k v)
+  pub value : length v ≤ length (editedText s e k v)
+
+-- the answer, the table and the output, the bytes to write being known
+abbrev pub Finishes : (s : List ℕ) → Edit → (key value t t′ out out′ : List ℕ) → Writing → Type 0
+Finishes s e key value t t′ out out′ r = (before : List ℕ) (text : Answer (List ℕ)) → Sound s e key value → t ≡ tableAfter s before → text ≡ withRoom (length out) (editedText s e key value) → Writes text s before t′ out out′ r

@@ -1,11 +1,2 @@
 pub mod Promise
 pub mod Ends
-pub mod Words
-pub mod Passing
-pub mod PairTexts
-pub mod Checks
-pub mod Inserting
-pub mod Output
-pub mod Tokens
-pub mod Shortest
-pub mod Rewriting

@@ -73,7 +73,7 @@ sign-shorter plus n r t h = omega arith
 sign-shorter minus zero r t h = omega arith
 sign-shorter minus (suc n) r t h = omega arith
 
-number-shorter : (w : Spelling) (n : ℕ) (r t : List ℕ) → length r ≤ length t → length (writeNumber shortest n r) ≤ length (writeNumber w n t)
+pub number-shorter : (w : Spelling) (n : ℕ) (r t : List ℕ) → length r ≤ length t → length (writeNumber shortest n r) ≤ length (writeNumber w n t)
 number-shorter w n r t h = omega (arith, number-length shortest n r, number-length w n t)
 
 int-shorter : (x : Literal) (r t : List ℕ) → length r ≤ length t → length (writeInt (shortestInt x) r) ≤ length (writeInt x t)
@@ -89,14 +89,14 @@ key-shorter : (k : Key) (r t : List ℕ) → length r ≤ length t → length (w
 key-shorter (intKey x) r t h = int-shorter x r t h
 key-shorter (stringKey q) r t h = string-shorter q r t h
 
-scalar-shorter : (x : Scalar) (r t : List ℕ) → length r ≤ length t → length (writeScalar (canonicalScalar x) r) ≤ length (writeScalar x t)
+pub scalar-shorter : (x : Scalar) (r t : List ℕ) → length r ≤ length t → length (writeScalar (canonicalScalar x) r) ≤ length (writeScalar x t)
 scalar-shorter null r t h = omega arith
 scalar-shorter (bool b) r t h = omega arith
 scalar-shorter (int x) r t h = int-shorter x r t h
 scalar-shorter (float f) r t h = simp length-append (omega arith)
 scalar-shorter (string q) r t h = string-shorter q r t h
 
-container-shorter : (c : Container) (r t : List ℕ) → length r ≤ length t → length (writeContainer (mapContainer shortestQuoted c) r) ≤ length (writeContainer c t)
+pub container-shorter : (c : Container) (r t : List ℕ) → length r ≤ length t → length (writeContainer (mapContainer shortestQuoted c) r) ≤ length (writeContainer c t)
 container-shorter array r t h = omega arith
 container-shorter (object q) r t h = omega (arith, quoted-length (shortestQuoted q) (byte ":" ∷ r), quoted-length q (byte ":" ∷ t))
 

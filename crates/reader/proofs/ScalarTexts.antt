@@ -1,16 +1,18 @@
 -- The texts of scalars and keys, as scanned. Assumes nothing.
 use Prim.Native.Nat.{ℕ}
 use mathlib.Core.Path.{_≡_, refl, sym, subst}
-use mathlib.Core.List.{List, [], _∷_}
+use mathlib.Core.List.{List}
+use mathlib.Core.Bool.{true}
 use mathlib.Core.Logic.{⊎-elim}
-use Rattle.format.specs.Bytes.{byte}
-use Rattle.format.specs.Kind.{Kind, tag}
-use Rattle.format.specs.Syntax.{intKey, stringKey}
+use Rattle.format.specs.Bytes.{bytes}
+use Rattle.format.specs.Kind.{Kind, keyKinds, mayBeKey, tag}
+use Rattle.format.specs.Syntax.{intKey, stringKey, int, string, Scalar, Literal, Quoted}
 use Rattle.format.specs.Read.{intText, quotedText, keyText}
 use Rattle.scanner.specs.declared.Scan.{Scan}
 use Rattle.scanner.specs.Scans.{Scans, scalarText, scalarBehind, literalTold, quotedTold, scalarTold}
-use Rattle.scanner.proofs.Numbers.{scans-map, scans-same}
+use Rattle.scanner.proofs.Numbers.{scans-map, scans-back, scans-same}
 use Rattle.reader.specs.Texts.{kindFor, scalarTag, keyTold}
+use Rattle.reader.proofs.Tagged.{one-of}
 
 -- a scalar's tag decides its kind
 pub scalar-behind : {s : List ℕ} {at b : ℕ} {r : Scan} → scalarTag b → Scans (scalarBehind b) (scalarTold at) s at r → Scans (scalarText (kindFor b)) (scalarTold at) s at r
@@ -21,10 +23,20 @@ module _ (s : List ℕ) (at b : ℕ) (r : Scan) where
   as-key : (k : Kind) → kindFor b ≡ k → Scans (keyText k) (keyTold at) s at r → Scans (keyText (kindFor b)) (keyTold at) s at r
   as-key k e h = subst (λ (j : Kind). Scans (keyText j) (keyTold at) s at r) (sym e) h
 
-  pub key-int : b ≡ tag Kind.int → Scans intText literalTold s at r → Scans (keyText (kindFor b)) (keyTold at) s at r
-  unfolding keyText kindFor
-  key-int e h = as-key Kind.int (rw e) (scans-map intKey (λ l s. refl) (λ x next. refl) h)
+  key-int : b ≡ tag Kind.int → Scans (scalarBehind b) (scalarTold at) s at r → Scans (keyText (kindFor b)) (keyTold at) s at r
+  unfolding keyText kindFor scalarBehind scalarText
+  key-int e h = as-key Kind.int (rw e) (scans-map {read = intText} intKey (λ l s. refl) (λ x next. refl) (scans-back {told = literalTold} int (λ x y i. same i) (λ l s. rw e) (λ x next. refl) h))
+    where
+      same : {x y : Literal} → _≡_ {A = Scalar} (int x) (int y) → x ≡ y
+      same i = cc
 
-  pub key-string : b ≡ tag Kind.string → Scans (λ l. quotedText l (byte "\"" ∷ byte ";" ∷ [])) (quotedTold at) s at r → Scans (keyText (kindFor b)) (keyTold at) s at r
-  unfolding keyText kindFor
-  key-string e h = as-key Kind.string (rw e) (scans-map stringKey (λ l s. refl) (λ x next. refl) h)
+  key-string : b ≡ tag Kind.string → Scans (scalarBehind b) (scalarTold at) s at r → Scans (keyText (kindFor b)) (keyTold at) s at r
+  unfolding keyText kindFor scalarBehind scalarText
+  key-string e h = as-key Kind.string (rw e) (scans-map {read = λ l. quotedText l (bytes "\";")} stringKey (λ l s. refl) (λ x next. refl) (scans-back {told = quotedTold at} string (λ x y i. same i) (λ l s. rw e) (λ x next. refl) h))
+    where
+      same : {x y : Quoted} → _≡_ {A = Scalar} (string x) (string y) → x ≡ y
+      same i = cc
+
+  -- a key is scanned as the scalar that it would be
+  pub key-behind : mayBeKey b ≡ true → Scans (scalarBehind b) (scalarTold at) s at r → Scans (keyText (kindFor b)) (keyTold at) s at r
+  key-behind m h = ⊎-elim (λ q. key-int q h) (λ o. ⊎-elim (λ q. key-string q h) (λ z. absurd z) o) (one-of (keyKinds true) b m)

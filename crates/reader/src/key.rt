@@ -9,15 +9,10 @@ use format::kind::Kind;
 use keys::KeyWords;
 use scanner::Scan;
 ghost use mathlib.Core.Path.{_≡_};
-ghost use mathlib.Core.Bool.{true};
 ghost use mathlib.Core.List.{List};
-ghost use Prim.Native.Nat.{_+_, _<_};
-ghost use lib.ListN.{length};
-ghost use Rattle.format.specs.Kind.{isTagOf, keyKinds, mayBeKey};
+ghost use Rattle.format.specs.Kind.{isTagOf, keyKinds};
 ghost use Rattle.format.specs.Syntax.{Key};
-ghost use Rattle.format.specs.Read.{keyText};
-ghost use Rattle.scanner.specs.Scans.{Scans};
-ghost use Rattle.reader.specs.Texts.{kindFor, isArrayTag, keyTold};
+ghost use Rattle.reader.specs.Texts.{isArrayTag};
 ghost use Rattle.reader.specs.KeysSeen.{Walk};
 ghost use Rattle.reader.specs.Steps.{Fit, Earlier, keyAt, MeetsKey};
 
@@ -33,17 +28,6 @@ fn key_allowed(tag: u8, container: u8) -> bool
         return true;
     }
     container == Kind::ARRAY
-}
-
-// The text of a key whose tag stands at an index.
-fn key_text(source: &[u8], at: usize, tag: u8) -> Scan
-    requires { ⌜ (at < length (now source)) × (mayBeKey tag ≡ true) ⌝ }
-    ensures { λ r. ⌜ Scans (keyText (kindFor tag)) (keyTold (at + 1)) (now (source .entry)) (at + 1) r ⌝ }
-{
-    match tag {
-        Kind::INT => scanner::number::int(source, at + 1),
-        _ => scanner::quoted::quoted(source, at + 1, b';'),
-    }
 }
 
 // A key of the container whose pairs begin at node `first`: 4, then 7, then the text, then 9.
@@ -72,7 +56,7 @@ pub(crate) fn read_key(
     if capacity <= node {
         return Step::Refused(7, at);
     }
-    let scan = key_text(source, at, tag);
+    let scan = scanner::scalar::scalar(source, at + 1, tag);
     let Scan::Is(text) = scan else {
         return refused(scan, at);
     };

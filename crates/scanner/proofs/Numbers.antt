@@ -1,7 +1,8 @@
 -- Laws of the texts of digits. Assumes nothing.
 use Prim.Native.Nat.{ℕ, suc, zero, _+_, _-_, _≤_, _<_}
 use native.Mathlib.Omega.{arith}
-use mathlib.Core.Path.{_≡_, refl, sym, ap, _∙_, subst}
+use mathlib.Core.Path.{_≡_, refl, sym, ap, ap₂, _∙_, subst}
+use mathlib.Core.Logic.{⊎-elim}
 use mathlib.Core.Bool.{Bool, true, false, _&&_}
 use mathlib.Core.List.{List, []}
 use lib.Dec.{eqb, lit<}
@@ -21,6 +22,7 @@ use Rattle.format.specs.Limits.{numberLimit, integerLimit, signOf}
 use Rattle.format.specs.Answer.{Answer, ok, refused, _>>=_}
 use Rattle.format.specs.Read.{expect, digits, number, intText}
 use Rattle.format.specs.Table.{word}
+use Rattle.format.proofs.Answers.{ok-same, not-both, bind-ok, bind-refused}
 use Rattle.scanner.specs.declared.Text.{Text}
 use Rattle.scanner.specs.declared.Scan.{Scan}
 use Rattle.scanner.specs.Scans.{Reader, Told, Found, Scans, found, unfit, scanned, scanOf, Answers, countText, namedText, tell, valueTold, literalTold, countTold}
@@ -78,6 +80,29 @@ pub scans-map : {A B : Type 0} {read : Reader A} {told : Told A} {whole : Reader
 scans-map {s = s} {at} f e g (found t h) =
     found t record { what = f (h .what); is = λ l. e l (drop at s) ∙ rw (h .is l); tells = h .tells ∙ g (h .what) (t .next); on = h .on; inside = h .inside }
 scans-map {s = s} {at} f e g (unfit c h) = unfit c (λ l. e l (drop at s) ∙ rw (h l))
+
+-- and the other way round, where what is made tells what it was made of
+pub scans-back : {A B : Type 0} {read : Reader A} {told : Told A} {whole : Reader B} {tells : Told B} {s : List ℕ} {at : ℕ} {r : Scan} (f : A → B) → ((x y : A) → f x ≡ f y → x ≡ y)
+    → ((l : ℕ) (s : List ℕ) → whole l s ≡ (read l s >>= λ q. ok (f (q .0), q .1))) → ((x : A) (next : ℕ) → told x next ≡ tells (f x) next) → Scans whole tells s at r → Scans read told s at r
+scans-back {A} {B} {read} {told} {whole} {tells} {s} {at} f one e g (found t h) =
+    found t record {
+      what = x;
+      is = λ l. part l .1 ∙ ap₂ (λ (a : A) (u : List ℕ). ok (a, u)) (one (part l .0 .0) x (same l ∙ sym (same 0))) (ap (λ (p : B × List ℕ). p .1) (ok-same (part l .2)));
+      tells = h .tells ∙ ap (λ (b : B). tells b (t .next)) (sym (same 0)) ∙ sym (g x (t .next));
+      on = h .on;
+      inside = h .inside;
+    }
+  where
+    part : (l : ℕ) → (q : A × List ℕ) × (read l (drop at s) ≡ ok q) × (_≡_ {A = Answer (B × List ℕ)} (ok (f (q .0), q .1)) (ok (h .what, drop (t .next) s)))
+    part l = bind-ok (read l (drop at s)) (λ q. ok (f (q .0), q .1)) (h .what, drop (t .next) s) (sym (e l (drop at s)) ∙ h .is l)
+
+    same : (l : ℕ) → f (part l .0 .0) ≡ h .what
+    same l = ap (λ (p : B × List ℕ). p .0) (ok-same (part l .2))
+
+    x : A
+    x = part 0 .0 .0
+scans-back {A} {B} {read} {s = s} {at} f one e g (unfit c h) =
+    unfit c (λ l. ⊎-elim (λ r. r) (λ q. absurd (not-both (sym (q .2)))) (bind-refused (read l (drop at s)) (λ q. ok (f (q .0), q .1)) c l (sym (e l (drop at s)) ∙ h l)))
 
 -- a text that reads alike answers alike
 pub scans-same : {A : Type 0} {read same : Reader A} {told : Told A} {s : List ℕ} {at : ℕ} {r : Scan} → ((l : ℕ) (s : List ℕ) → same l s ≡ read l s) → Scans read told s at r → Scans same told s at r

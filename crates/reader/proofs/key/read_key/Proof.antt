@@ -7,6 +7,7 @@ use borrow.Author.Tests.{not-true, not-false}
 use Rattle.scanner.proofs.Numbers.{found-of}
 use Rattle.reader.specs.Texts.{isArrayTag}
 use Rattle.reader.proofs.Tagged as tagged
+use Rattle.reader.proofs.ScalarTexts.{key-behind}
 use Rattle.reader.proofs.KeySteps as steps
 use Rattle.reader.proofs.key.read_key.Statement.{statement}
 use Rattle.reader.proofs.key.read_key.Tie as tie
@@ -26,8 +27,11 @@ returns-2 c = λ earlier e. steps.key-other _ _ _ _ earlier _ (c .before .before
 returns-3 : tie.Need-returns-3
 returns-3 c = λ earlier e. steps.key-full _ _ _ _ earlier _ (c .before .before .before .before .if1 .left) refl (sym (c .before .before .key-allowed .ensures) ∙ not-false _ (c .before .if2 .left)) (c .if3 .taken)
 
-key-text-requires : tie.Need-key-text-requires
-key-text-requires c κs = (c .before .before .before .before .if1 .left, tagged.key-any (isArrayTag (c .before .before .before .before .before .before .before .args .container)) (getD (c .before .before .before .before .before .before .before .args .source .now) (c .before .before .before .before .before .before .before .args .cursor .at) 0) (sym (c .before .before .key-allowed .ensures) ∙ not-false _ (c .before .if2 .left)))
+add-scalar : tie.Need-add-scalar
+add-scalar c = search needs
+
+scalar-requires : tie.Need-scalar-requires
+scalar-requires c κs = search needs
 
 enum-known-scan : tie.Need-enum-known-scan
 enum-known-scan c = search needs
@@ -39,7 +43,7 @@ refused-requires : tie.Need-refused-requires
 refused-requires c κs = search needs
 
 returns-4 : tie.Need-returns-4
-returns-4 c = λ earlier e. steps.key-not _ _ _ _ earlier _ (c .before .before .before .before .before .before .before .before .if1 .left) refl (sym (c .before .before .before .before .before .before .key-allowed .ensures) ∙ not-false _ (c .before .before .before .before .before .if2 .left)) (c .before .before .before .before .if3 .left) (c .before .before .before .before .before .before .before .before .before .before .before .args .table .now) (c .before .before .before .before .before .before .before .before .before .before .before .args .table .now) _ _ _ (c .before .before .before .key-text .ensures) (c .before .enum-told .given .1) (c .refused .ensures)
+returns-4 c = λ earlier e. steps.key-not _ _ _ _ earlier _ (c .before .before .before .before .before .before .before .before .if1 .left) refl (sym (c .before .before .before .before .before .before .key-allowed .ensures) ∙ not-false _ (c .before .before .before .before .before .if2 .left)) (c .before .before .before .before .if3 .left) (c .before .before .before .before .before .before .before .before .before .before .before .args .table .now) (c .before .before .before .before .before .before .before .before .before .before .before .args .table .now) _ _ _ (key-behind _ _ _ _ (tagged.key-any (isArrayTag (c .before .before .before .before .before .before .before .before .before .before .before .args .container)) (getD (c .before .before .before .before .before .before .before .before .before .before .before .args .source .now) (c .before .before .before .before .before .before .before .before .before .before .before .args .cursor .at) 0) (sym (c .before .before .before .before .before .before .key-allowed .ensures) ∙ not-false _ (c .before .before .before .before .before .if2 .left))) (c .before .before .before .scalar .ensures .scans)) (c .before .enum-told .given .1) (c .refused .ensures)
 
 cast-t19 : tie.Need-cast-t19
 cast-t19 c = omega (arith, c .before .before .before .before .before .before .before .shared-slice-known2 .given (c .before .before .before .before .before .before .before .before .before .before .before .args .cursor .at))
@@ -51,7 +55,7 @@ same-length : tie.Need-same-length
 same-length c = search needs
 
 returns-5 : tie.Need-returns-5
-returns-5 c = λ earlier e. steps.key-twice _ _ _ _ earlier _ (c .before .before .before .before .before .before .before .before .before .before .before .if1 .left) refl (sym (c .before .before .before .before .before .before .before .before .before .key-allowed .ensures) ∙ not-false _ (c .before .before .before .before .before .before .before .before .if2 .left)) (c .before .before .before .before .before .before .before .if3 .left) _ (found-of (c .before .before .before .before .before .before .key-text .ensures) (c .before .before .before .before .scan .given .1)) (e .same _ ∙ sym (c .before .key-seen .ensures _ _ (steps.key-held _ _ _ (c .before .before .before .before .before .before .before .before .before .before .before .before .before .before .args .cursor) earlier _ (c .before .before .before .before .before .before .before .before .before .before .before .if1 .left) refl (sym (c .before .before .before .before .before .before .before .before .before .key-allowed .ensures) ∙ not-false _ (c .before .before .before .before .before .before .before .before .if2 .left)) (c .before .before .before .before .before .before .before .if3 .left) _ (found-of (c .before .before .before .before .before .before .key-text .ensures) (c .before .before .before .before .scan .given .1))) (e .chain) (e .under)) ∙ c .if4 .taken)
+returns-5 c = λ earlier e. steps.key-twice _ _ _ _ earlier _ (c .before .before .before .before .before .before .before .before .before .before .before .if1 .left) refl (sym (c .before .before .before .before .before .before .before .before .before .key-allowed .ensures) ∙ not-false _ (c .before .before .before .before .before .before .before .before .if2 .left)) (c .before .before .before .before .before .before .before .if3 .left) _ (found-of (key-behind _ _ _ _ (tagged.key-any (isArrayTag (c .before .before .before .before .before .before .before .before .before .before .before .before .before .before .args .container)) (getD (c .before .before .before .before .before .before .before .before .before .before .before .before .before .before .args .source .now) (c .before .before .before .before .before .before .before .before .before .before .before .before .before .before .args .cursor .at) 0) (sym (c .before .before .before .before .before .before .before .before .before .key-allowed .ensures) ∙ not-false _ (c .before .before .before .before .before .before .before .before .if2 .left))) (c .before .before .before .before .before .before .scalar .ensures .scans)) (c .before .before .before .before .scan .given .1)) (e .same _ ∙ sym (c .before .key-seen .ensures _ _ (steps.key-held _ _ _ (c .before .before .before .before .before .before .before .before .before .before .before .before .before .before .args .cursor) earlier _ (c .before .before .before .before .before .before .before .before .before .before .before .if1 .left) refl (sym (c .before .before .before .before .before .before .before .before .before .key-allowed .ensures) ∙ not-false _ (c .before .before .before .before .before .before .before .before .if2 .left)) (c .before .before .before .before .before .before .before .if3 .left) _ (found-of (key-behind _ _ _ _ (tagged.key-any (isArrayTag (c .before .before .before .before .before .before .before .before .before .before .before .before .before .before .args .container)) (getD (c .before .before .before .before .before .before .before .before .before .before .before .before .before .before .args .source .now) (c .before .before .before .before .before .before .before .before .before .before .before .before .before .before .args .cursor .at) 0) (sym (c .before .before .before .before .before .before .before .before .before .key-allowed .ensures) ∙ not-false _ (c .before .before .before .before .before .before .before .before .if2 .left))) (c .before .before .before .before .before .before .scalar .ensures .scans)) (c .before .before .before .before .scan .given .1))) (e .chain) (e .under)) ∙ c .if4 .taken)
 
 place-requires : tie.Need-place-requires
 place-requires c κs = search needs
@@ -60,7 +64,7 @@ same-length-2 : tie.Need-same-length-2
 same-length-2 c = search needs
 
 returns-6 : tie.Need-returns-6
-returns-6 c = λ earlier e. steps.key-good _ _ _ _ earlier _ (c .before .before .before .before .before .before .before .before .before .before .before .before .before .before .before .if1 .left) refl (sym (c .before .before .before .before .before .before .before .before .before .before .before .before .before .key-allowed .ensures) ∙ not-false _ (c .before .before .before .before .before .before .before .before .before .before .before .before .if2 .left)) (c .before .before .before .before .before .before .before .before .before .before .before .if3 .left) _ (found-of (c .before .before .before .before .before .before .before .before .before .before .key-text .ensures) (c .before .before .before .before .before .before .before .before .scan .given .1)) _ _ _ (c .before .before .before .before .before .before .before .before .before .before .before .before .before .before .before .before .before .before .pre .0) (e .same _ ∙ sym (c .before .before .before .before .before .key-seen .ensures _ _ (steps.key-held _ _ _ (c .before .before .before .before .before .before .before .before .before .before .before .before .before .before .before .before .before .before .args .cursor) earlier _ (c .before .before .before .before .before .before .before .before .before .before .before .before .before .before .before .if1 .left) refl (sym (c .before .before .before .before .before .before .before .before .before .before .before .before .before .key-allowed .ensures) ∙ not-false _ (c .before .before .before .before .before .before .before .before .before .before .before .before .if2 .left)) (c .before .before .before .before .before .before .before .before .before .before .before .if3 .left) _ (found-of (c .before .before .before .before .before .before .before .before .before .before .key-text .ensures) (c .before .before .before .before .before .before .before .before .scan .given .1))) (e .chain) (e .under)) ∙ c .before .before .before .before .if4 .left) (c .before .before .place .ensures)
+returns-6 c = λ earlier e. steps.key-good _ _ _ _ earlier _ (c .before .before .before .before .before .before .before .before .before .before .before .before .before .before .before .if1 .left) refl (sym (c .before .before .before .before .before .before .before .before .before .before .before .before .before .key-allowed .ensures) ∙ not-false _ (c .before .before .before .before .before .before .before .before .before .before .before .before .if2 .left)) (c .before .before .before .before .before .before .before .before .before .before .before .if3 .left) _ (found-of (key-behind _ _ _ _ (tagged.key-any (isArrayTag (c .before .before .before .before .before .before .before .before .before .before .before .before .before .before .before .before .before .before .args .container)) (getD (c .before .before .before .before .before .before .before .before .before .before .before .before .before .before .before .before .before .before .args .source .now) (c .before .before .before .before .before .before .before .before .before .before .before .before .before .before .before .before .before .before .args .cursor .at) 0) (sym (c .before .before .before .before .before .before .before .before .before .before .before .before .before .key-allowed .ensures) ∙ not-false _ (c .before .before .before .before .before .before .before .before .before .before .before .before .if2 .left))) (c .before .before .before .before .before .before .before .before .before .before .scalar .ensures .scans)) (c .before .before .before .before .before .before .before .before .scan .given .1)) _ _ _ (c .before .before .before .before .before .before .before .before .before .before .before .before .before .before .before .before .before .before .pre .0) (e .same _ ∙ sym (c .before .before .before .before .before .key-seen .ensures _ _ (steps.key-held _ _ _ (c .before .before .before .before .before .before .before .before .before .before .before .before .before .before .before .before .before .before .args .cursor) earlier _ (c .before .before .before .before .before .before .before .before .before .before .before .before .before .before .before .if1 .left) refl (sym (c .before .before .before .before .before .before .before .before .before .before .before .before .before .key-allowed .ensures) ∙ not-false _ (c .before .before .before .before .before .before .before .before .before .before .before .before .if2 .left)) (c .before .before .before .before .before .before .before .before .before .before .before .if3 .left) _ (found-of (key-behind _ _ _ _ (tagged.key-any (isArrayTag (c .before .before .before .before .before .before .before .before .before .before .before .before .before .before .before .before .before .before .args .container)) (getD (c .before .before .before .before .before .before .before .before .before .before .before .before .before .before .before .before .before .before .args .source .now) (c .before .before .before .before .before .before .before .before .before .before .before .before .before .before .before .before .before .before .args .cursor .at) 0) (sym (c .before .before .before .before .before .before .before .before .before .before .before .before .before .key-allowed .ensures) ∙ not-false _ (c .before .before .before .before .before .before .before .before .before .before .before .before .if2 .left))) (c .before .before .before .before .before .before .before .before .before .before .scalar .ensures .scans)) (c .before .before .before .before .before .before .before .before .scan .given .1))) (e .chain) (e .under)) ∙ c .before .before .before .before .if4 .left) (c .before .before .place .ensures)
 
 pub read-key-spec : {M : Type 1} → statement M
 read-key-spec =
@@ -71,7 +75,8 @@ read-key-spec =
     key-allowed-requires
     returns-2
     returns-3
-    key-text-requires
+    add-scalar
+    scalar-requires
     enum-known-scan
     enum-told
     refused-requires

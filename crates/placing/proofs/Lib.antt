@@ -1,0 +1,11 @@
+pub mod WordLaws
+pub mod Passes
+pub mod TextLaws
+pub mod PairParts
+pub mod Sites
+pub mod SiteWords
+pub mod Placings
+pub mod InsertedTexts
+pub mod Gaps
+pub mod Placements
+pub mod Locating

@@ -1,0 +1,66 @@
+-- `placing::locate` meets its contract. Assumes nothing.
+use Rattle.placing.proofs.Locating as locating
+use borrow.Author.Needs.{needs}
+use Rattle.placing.proofs.locate.Statement.{statement}
+use Rattle.placing.proofs.locate.Tie as tie
+
+read-requires : tie.Need-read-requires
+read-requires c κs = search needs
+
+enum-known-reading : tie.Need-enum-known-reading
+enum-known-reading c = search needs
+
+enum-told : tie.Need-enum-told
+enum-told c = search needs
+
+as-placing-requires : tie.Need-as-placing-requires
+as-placing-requires c κs = search needs
+
+same-length : tie.Need-same-length
+same-length c = search needs
+
+returns : tie.Need-returns
+returns c = locating.locates-unread (c .before .before .before .before .before .read .ensures) (c .before .before .before .before .before .before .before .before .before .before .before .args .array-node) (c .before .before .before .before .before .before .before .before .before .before .before .args .pair-index) (c .before .before .before .before .before .before .before .before .before .before .before .args .key .now) (c .before .before .before .before .before .before .before .before .before .before .before .args .value .now) (c .before .enum-told .given .1) (c .as-placing .ensures)
+
+place-requires : tie.Need-place-requires
+place-requires c κs = locating.given (c .before .before .before .before .before .before .read .ensures) (c .before .before .reading .given .1)
+
+enum-told-2 : tie.Need-enum-told-2
+enum-told-2 c = search needs
+
+enum-told-3 : tie.Need-enum-told-3
+enum-told-3 c = search needs
+
+clear-requires : tie.Need-clear-requires
+clear-requires c κs = search needs
+
+same-length-2 : tie.Need-same-length-2
+same-length-2 c = search needs
+
+returns-2 : tie.Need-returns-2
+returns-2 c = locating.locates-refused (c .before .before .before .before .before .before .before .before .before .before .before .before .before .read .ensures) (c .before .before .before .before .before .before .before .before .before .reading .given .1) (c .before .before .before .before .before .before .before .before .before .before .before .before .before .before .before .before .before .before .before .args .array-node) (c .before .before .before .before .before .before .before .before .before .before .before .before .before .before .before .before .before .before .before .args .pair-index) (c .before .before .before .before .before .before .before .before .before .before .before .before .before .before .before .before .before .before .before .args .key .now) (c .before .before .before .before .before .before .before .before .before .before .before .before .before .before .before .before .before .before .before .args .value .now) (c .before .before .before .before .before .before .place .ensures) (c .before .before .before .before .enum-told3 .given .1) (c .before .before .clear .ensures)
+
+same-length-3 : tie.Need-same-length-3
+same-length-3 c = search needs
+
+returns-3 : tie.Need-returns-3
+returns-3 c = locating.locates-at (c .before .before .before .before .before .before .before .before .before .read .ensures) (c .before .before .before .before .before .reading .given .1) (c .before .before .before .before .before .before .before .before .before .before .before .before .before .before .before .args .array-node) (c .before .before .before .before .before .before .before .before .before .before .before .before .before .before .before .args .pair-index) (c .before .before .before .before .before .before .before .before .before .before .before .before .before .before .before .args .key .now) (c .before .before .before .before .before .before .before .before .before .before .before .before .before .before .before .args .value .now) (c .before .before .place .ensures) (c .enum-told2 .given .1)
+
+pub locate-spec : {M : Type 1} → statement M
+locate-spec =
+    tie.close
+    (tie.spec
+    read-requires
+    enum-known-reading
+    enum-told
+    as-placing-requires
+    same-length
+    returns
+    place-requires
+    enum-told-2
+    enum-told-3
+    clear-requires
+    same-length-2
+    returns-2
+    same-length-3
+    returns-3)

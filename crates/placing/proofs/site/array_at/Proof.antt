@@ -1,0 +1,60 @@
+-- `placing::site::array_at` meets its contract. Assumes nothing.
+use native.Mathlib.Omega.{arith}
+use mathlib.Core.Path.{refl, sym, _∙_}
+use Rattle.placing.proofs.WordLaws as words
+use borrow.Author.Needs.{needs}
+use Rattle.placing.proofs.site.array_at.Statement.{statement}
+use Rattle.placing.proofs.site.array_at.Tie as tie
+
+returns : tie.Need-returns
+returns c = search needs
+
+mul-k : tie.Need-mul-k
+mul-k c = search needs
+
+mul-if2 : tie.Need-mul-if2
+mul-if2 c = search needs
+
+shared-slice-read-if2 : tie.Need-shared-slice-read-if2
+shared-slice-read-if2 c = search needs
+
+returns-2 : tie.Need-returns-2
+returns-2 c = λ h e. c .if2 .taken (words.word-first (c .before .before .before .args .table .now) (c .before .before .before .args .node) ∙ e)
+
+add-t6 : tie.Need-add-t6
+add-t6 c = search needs
+
+mul-t9 : tie.Need-mul-t9
+mul-t9 c = search needs
+
+shared-slice-read-t8 : tie.Need-shared-slice-read-t8
+shared-slice-read-t8 c = search needs
+
+add-t11 : tie.Need-add-t11
+add-t11 c = search needs
+
+mul-t12 : tie.Need-mul-t12
+mul-t12 c = search needs
+
+shared-slice-read-t14 : tie.Need-shared-slice-read-t14
+shared-slice-read-t14 c = search needs
+
+returns-3 : tie.Need-returns-3
+returns-3 c = record { inside = omega (arith, c .before .before .before .before .if1 .left); tagged = sym (words.word-first (c .before .before .before .before .before .args .table .now) (c .before .before .before .before .before .args .node)) ∙ c .before .before .if2 .left; counted = refl; numbered = refl }
+
+pub array-at-spec : {M : Type 1} → statement M
+array-at-spec =
+    tie.close
+    (tie.spec
+    returns
+    mul-k
+    mul-if2
+    shared-slice-read-if2
+    returns-2
+    add-t6
+    mul-t9
+    shared-slice-read-t8
+    add-t11
+    mul-t12
+    shared-slice-read-t14
+    returns-3)

@@ -1,0 +1,6 @@
+pub mod Locating
+pub mod Placing
+pub mod Words
+pub mod Passing
+pub mod PairTexts
+pub mod Checks

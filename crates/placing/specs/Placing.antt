@@ -1,0 +1,74 @@
+-- A pair's place in the bytes of a plan that was read.
+use mathlib.Core.Path.{_≡_}
+use mathlib.Core.Bool.{true}
+use mathlib.Core.List.{List, _∷_, _++_}
+use Prim.Native.Nat.{ℕ, _≤_}
+use lib.ListN.{length, drop}
+use Rattle.format.specs.Bytes.{byte}
+use Rattle.format.specs.Kind.{Kind, tag}
+use Rattle.format.specs.Tree.{nodes}
+use Rattle.format.specs.Syntax.{Spelling, Value, writeNumber}
+use Rattle.format.specs.Limits.{numberLimit}
+use Rattle.format.specs.Fits.{IsPlan}
+use Rattle.format.specs.Answer.{refused}
+use Rattle.format.specs.Table.{flat, tableOf}
+use Rattle.format.specs.Reading.{capacityOf}
+use Rattle.format.specs.Writing.{withRoom, insertBytes}
+use Rattle.reader.specs.declared.Reading.{Reading}
+use Rattle.rewriting.specs.declared.inserted.Spot.{Spot}
+use Rattle.rewriting.specs.Edited.{stands, insertedText}
+use Rattle.placing.specs.declared.Placing.{Placing}
+use Rattle.placing.specs.Passing.{Ahead}
+
+-- ---- the plan that was read, with its table
+
+pub record Given (s t : List ℕ) (n : ℕ) : Type 0 where
+  pub value : Value
+  pub plan : IsPlan (capacityOf t) s value
+  pub counted : n ≡ nodes value
+  pub rest : List ℕ
+  pub table : t ≡ flat (tableOf value) ++ rest
+
+-- ---- the gap
+
+-- an array's head stands ahead
+pub record HeadAhead (s : List ℕ) (at : ℕ) : Type 0 where
+  pub spelling : Spelling
+  pub pairs : ℕ
+  pub few : pairs ≤ numberLimit
+  pub rest : List ℕ
+  pub text : drop at s ≡ tag Kind.array ∷ byte ":" ∷ writeNumber spelling pairs (byte ":" ∷ byte "{" ∷ rest)
+
+pub record BehindHead (s rest : List ℕ) (r : ℕ) : Type 0 where
+  pub here : drop r s ≡ rest
+  pub inside : r ≤ length s
+
+-- and behind it so many nodes with all that closes them
+pub record SpotAhead (s : List ℕ) (at nodes : ℕ) : Type 0 where
+  pub head : HeadAhead s at
+  pub rest : List ℕ
+  pub pairs : (i : ℕ) → drop i s ≡ head .rest → i ≤ length s → Ahead s i nodes
+  pub same : (i : ℕ) (e : drop i s ≡ head .rest) (h : i ≤ length s) → pairs i e h .rest ≡ rest
+
+pub record SpotIs (s head rest : List ℕ) (at count ordinal : ℕ) (r : Spot) : Type 0 where
+  pub tag : r .at ≡ at
+  pub first : BehindHead s head (r .inside)
+  pub gap : BehindHead s rest (r .gap)
+  pub counted : r .count ≡ count
+  pub taken : r .ordinal ≡ ordinal
+
+-- ---- the steps between reading and writing
+
+pub record Placement (s t : List ℕ) (node place : ℕ) (key value : List ℕ) (p : Spot) : Type 0 where
+  pub stands : stands (length s) p ≡ true
+  pub bytes : (room : ℕ) → insertBytes (capacityOf t) room s node place key value ≡ withRoom room (insertedText s key value p)
+
+abbrev pub Placed : (s t : List ℕ) (node place : ℕ) (key value : List ℕ) → Placing → Type 0
+Placed s t node place key value (Placing.At p) = Placement s t node place key value p
+Placed s t node place key value (Placing.Refused code at) = (room : ℕ) → insertBytes (capacityOf t) room s node place key value ≡ refused code at
+
+-- ---- reading's refusal, as it stands
+
+abbrev pub placingOf : Reading → Placing
+placingOf (Reading.Accepted nodes ordinals) = Placing.Refused 0 0
+placingOf (Reading.Refused code at) = Placing.Refused code at

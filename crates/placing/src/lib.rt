@@ -1,0 +1,55 @@
+// Where inserting puts a pair: the plan is read, and then the steps before writing are taken.
+use crate::place::place;
+use reader::Reading;
+use rewriting::inserted::Spot;
+ghost use mathlib.Core.Path.{_≡_};
+ghost use Rattle.placing.specs.Locating.{Locates};
+ghost use Rattle.placing.specs.Placing.{placingOf};
+
+mod pass;
+mod place;
+mod site;
+mod steps;
+mod texts;
+
+// Where the pair goes, or a refusal's number and position.
+pub enum Placing {
+    At(Spot),
+    Refused { code: u8, at: usize },
+}
+
+// What reading answers, as an answer of placing: a refusal as it stands. An acceptance is not asked for.
+fn as_placing(reading: Reading) -> Placing
+    ensures { λ r. ⌜ r ≡ placingOf reading ⌝ }
+{
+    match reading {
+        Reading::Accepted {
+            nodes: _,
+            ordinals: _,
+        } => Placing::Refused { code: 0, at: 0 },
+        Reading::Refused { code, at } => Placing::Refused { code, at },
+    }
+}
+
+// The steps of inserting up to writing: the table is that of the plan given; a refusal makes every word of it zero.
+pub fn locate(
+    source: &[u8],
+    array_node: usize,
+    pair_index: usize,
+    key: &[u8],
+    value: &[u8],
+    table: &mut [u64],
+) -> Placing
+    ensures { λ r. ⌜ Locates (now (source .entry)) «array_node» «pair_index» (now (key .entry)) (now (value .entry)) (now (table .entry)) (now (table .exit)) r ⌝ }
+{
+    let reading = reader::read(source, table);
+    let Reading::Accepted { nodes, ordinals: _ } = reading else {
+        return as_placing(reading);
+    };
+    let placing = place(source, table, nodes, array_node, pair_index, key, value);
+    let Placing::At(_) = placing else {
+        reader::clear(table);
+        return placing;
+    };
+    placing
+}

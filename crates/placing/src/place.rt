@@ -1,0 +1,89 @@
+// Where a pair goes in the bytes of a plan that was read.
+use crate::Placing;
+use crate::pass::pass;
+use crate::site::Gap;
+use crate::site::Site;
+use crate::site::array_at;
+use crate::site::gap_at;
+use crate::steps::Check;
+use crate::steps::new_key;
+use crate::steps::shallow;
+use crate::steps::two_more;
+use crate::texts::Texts;
+use crate::texts::pair_texts;
+use reader::WIDTH;
+use rewriting::inserted::Spot;
+use scanner::Scan;
+use tokens::token;
+ghost use Rattle.placing.specs.Placing.{Given, Placed, HeadAhead, BehindHead, SpotAhead, SpotIs};
+
+// The index behind the array's head, whose tag stands at an index.
+fn behind_head(source: &[u8], at: usize) -> usize
+    requires { ⌜ HeadAhead (now source) at ⌝ }
+    ensures { λ r. ⌜ ((h : HeadAhead (now (source .entry)) at) → BehindHead (now (source .entry)) (h .rest) r) ⌝ }
+{
+    let scan = token(source, at);
+    let Scan::Is(text) = scan else {
+        // No token of a plan that was read is unfit.
+        return at;
+    };
+    text.next
+}
+
+// The gap behind so many nodes of the array whose tag stands at an index.
+fn find_gap(source: &[u8], at: usize, nodes: usize, count: u64, ordinal: u64) -> Spot
+    requires { ⌜ SpotAhead (now source) at nodes ⌝ }
+    ensures { λ r. ⌜ ((a : SpotAhead (now (source .entry)) at nodes) → SpotIs (now (source .entry)) (a .head .rest) (a .rest) at count ordinal r) ⌝ }
+{
+    let inside = behind_head(source, at);
+    let reached = pass(source, inside, nodes);
+    Spot {
+        at,
+        inside,
+        gap: reached.at,
+        count,
+        ordinal,
+    }
+}
+
+// The steps between reading and writing, in the order 11, 12, 13, 9, 8, 7.
+pub(crate) fn place(
+    source: &[u8],
+    table: &[u64],
+    nodes: usize,
+    array_node: usize,
+    pair_index: usize,
+    key: &[u8],
+    value: &[u8],
+) -> Placing
+    requires { ⌜ Given (now source) (now table) nodes ⌝ }
+    ensures { λ r. ⌜ Placed (now (source .entry)) (now (table .entry)) «array_node» «pair_index» (now (key .entry)) (now (value .entry)) r ⌝ }
+{
+    let site = array_at(table, nodes, array_node);
+    let Site::Array { count, ordinal } = site else {
+        return Placing::Refused { code: 11, at: 0 };
+    };
+    let gap = gap_at(table, array_node, count, ordinal, pair_index);
+    let Gap::Before { node, ordinal: new } = gap else {
+        return Placing::Refused { code: 12, at: 0 };
+    };
+    let fit = pair_texts(key, value);
+    let Texts::Fit(words) = fit else {
+        return Placing::Refused { code: 13, at: 0 };
+    };
+    let first = array_node + 1;
+    let fresh = new_key(source, table, first, count, key, words);
+    let Check::Passed = fresh else {
+        return Placing::Refused { code: 9, at: 0 };
+    };
+    let reached = pass(source, 0, array_node);
+    let depth = shallow(reached.around);
+    let Check::Passed = depth else {
+        return Placing::Refused { code: 8, at: 0 };
+    };
+    let room = two_more(nodes, table.len() / WIDTH);
+    let Check::Passed = room else {
+        return Placing::Refused { code: 7, at: 0 };
+    };
+    Placing::At(find_gap(source, reached.at, node - first, count, new))
+}

@@ -1,0 +1,91 @@
+// The array asked for and the place in it, by the table of the plan that was read.
+use format::kind::Kind;
+use reader::WIDTH;
+ghost use mathlib.Core.Path.{_≡_};
+ghost use Prim.Native.Nat.{_+_, _*_, _≤_};
+ghost use lib.ListN.{length};
+ghost use Rattle.format.specs.Table.{width};
+ghost use Rattle.placing.specs.Words.{pairNode, carriers, SiteIs, Walkable, GapBounds, GapIs};
+
+// Word 0 of an array.
+const ARRAY_TAG: u64 = Kind::ARRAY as u64;
+
+// From a key's node on: word 5 of the value's node behind it says where the pair ends.
+pub(crate) const PAIR_END: usize = WIDTH + 5;
+
+// What stands at a node: an array with its count of pairs and its ordinal, or something else.
+pub enum Site {
+    Array { count: u64, ordinal: u64 },
+    Other,
+}
+
+// A place among an array's pairs: the node of the key before which the new pair goes, or the one behind the array, and the ordinal that the new value takes; or a place above the count.
+pub enum Gap {
+    Before { node: usize, ordinal: u64 },
+    Beyond,
+}
+
+// 11: "index names no `a` node".
+pub(crate) fn array_at(table: &[u64], nodes: usize, node: usize) -> Site
+    requires { ⌜ nodes * width ≤ length (now table) ⌝ }
+    ensures { λ r. ⌜ SiteIs (now (table .entry)) nodes node r ⌝ }
+{
+    if nodes <= node {
+        return Site::Other;
+    }
+    let k = node * WIDTH;
+    if table[k] != ARRAY_TAG {
+        return Site::Other;
+    }
+    Site::Array {
+        count: table[k + 4],
+        ordinal: table[k + 1],
+    }
+}
+
+// Of the pairs that stand from node `first` on, the node of the key at a place.
+fn pair_node(table: &[u64], first: usize, place: usize) -> usize
+    requires { ⌜ Walkable (now table) first place ⌝ }
+    ensures { λ r. ⌜ r ≡ pairNode (now (table .entry)) first place ⌝ }
+{
+    let mut node = first;
+    let mut q = 0;
+    while q < place {
+        node = table[node * WIDTH + PAIR_END] as usize;
+        q += 1;
+    }
+    node
+}
+
+// How many of so many nodes carry an ordinal.
+fn carried(table: &[u64], first: usize, count: usize) -> usize
+    requires { ⌜ (first + count) * width ≤ length (now table) ⌝ }
+    ensures { λ r. ⌜ (r ≡ carriers (now (table .entry)) first count) × (r ≤ count) ⌝ }
+{
+    let mut taken = 0;
+    let mut i = 0;
+    while i < count {
+        if table[(first + i) * WIDTH + 1] != 0 {
+            taken += 1;
+        }
+        i += 1;
+    }
+    taken
+}
+
+// 12: "place above the array's count".
+pub(crate) fn gap_at(table: &[u64], node: usize, count: u64, ordinal: u64, place: usize) -> Gap
+    requires { ⌜ GapBounds (now table) node count ordinal place ⌝ }
+    ensures { λ r. ⌜ GapIs (now (table .entry)) node count ordinal place r ⌝ }
+{
+    if count < place as u64 {
+        return Gap::Beyond;
+    }
+    let first = node + 1;
+    let behind = pair_node(table, first, place);
+    let taken = carried(table, first, behind - first);
+    Gap::Before {
+        node: behind,
+        ordinal: ordinal + taken as u64 + 1,
+    }
+}

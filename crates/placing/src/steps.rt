@@ -1,0 +1,82 @@
+// The steps of inserting that only pass or fail: 9, 8 and 7.
+use crate::site::PAIR_END;
+use keys::KeyWords;
+use keys::same_key;
+use reader::WIDTH;
+ghost use mathlib.Core.Path.{_≡_};
+ghost use mathlib.Core.Bool.{not};
+ghost use Prim.Native.Nat.{suc, _+_, _*_, _≤_};
+ghost use lib.Dec.{leb, ltb};
+ghost use lib.ListN.{length};
+ghost use Rattle.format.specs.Limits.{depthLimit};
+ghost use Rattle.format.specs.Table.{width};
+ghost use Rattle.placing.specs.Words.{keyWordsAt, keyAmong, Walks};
+ghost use Rattle.placing.specs.Checks.{CheckIs};
+
+// "to a depth of 64".
+const DEPTH_LIMIT: usize = 64;
+
+pub enum Check {
+    Passed,
+    Failed,
+}
+
+// The key that stands at a node.
+fn key_at(table: &[u64], node: usize) -> KeyWords
+    requires { ⌜ node * width + width ≤ length (now table) ⌝ }
+    ensures { λ r. ⌜ r ≡ keyWordsAt (now (table .entry)) node ⌝ }
+{
+    let k = node * WIDTH;
+    KeyWords {
+        tag: table[k],
+        content: table[k + 2],
+        size: table[k + 3],
+    }
+}
+
+// 9, "new key present": no key of so many pairs, which stand from node `first` on, is equal to the new one.
+pub(crate) fn new_key(
+    source: &[u8],
+    table: &[u64],
+    first: usize,
+    count: u64,
+    key: &[u8],
+    words: KeyWords,
+) -> Check
+    requires { ⌜ Walks (now table) first count ⌝ }
+    ensures { λ r. ⌜ CheckIs (not (keyAmong (now (source .entry)) (now (key .entry)) words (now (table .entry)) first count)) r ⌝ }
+{
+    let mut node = first;
+    let mut left = count;
+    while 0 < left {
+        if same_key(key, words, source, key_at(table, node)) {
+            return Check::Failed;
+        }
+        node = table[node * WIDTH + PAIR_END] as usize;
+        left -= 1;
+    }
+    Check::Passed
+}
+
+// 8, "array at depth 64": so many containers stand around the array.
+pub(crate) fn shallow(around: usize) -> Check
+    ensures { λ r. ⌜ CheckIs (ltb (suc around) depthLimit) r ⌝ }
+{
+    if DEPTH_LIMIT - 1 <= around {
+        return Check::Failed;
+    }
+    Check::Passed
+}
+
+// 7, "two more nodes": there is room for them.
+pub(crate) fn two_more(nodes: usize, capacity: usize) -> Check
+    ensures { λ r. ⌜ CheckIs (leb (nodes + 2) capacity) r ⌝ }
+{
+    if capacity < 2 {
+        return Check::Failed;
+    }
+    if capacity - 2 < nodes {
+        return Check::Failed;
+    }
+    Check::Passed
+}

@@ -1,0 +1,7 @@
+pub mod Outputs
+pub mod Spelled
+pub mod Respelled
+pub mod Rewritten
+pub mod InsertedTexts
+pub mod Measures
+pub mod Editable

@@ -1,0 +1,55 @@
+-- WHAT AN EDIT WRITES, of any source.
+use mathlib.Core.Path.{_≡_}
+use mathlib.Core.List.{List, _++_}
+use mathlib.Core.Bool.{Bool, true, false, _&&_}
+use Prim.Native.Nat.{ℕ, _+_, _-_}
+use lib.Dec.{leb}
+use lib.ListN.{length}
+use Rattle.format.specs.Limits.{sourceLimit, numberLimit}
+use Rattle.rewriting.specs.declared.Edit.{Edit}
+use Rattle.rewriting.specs.declared.Edited.{Edited}
+use Rattle.rewriting.specs.declared.inserted.Spot.{Spot}
+use Rattle.rewriting.specs.declared.rewrite.Change.{Change}
+use Rattle.rewriting.specs.Output.{Within, Puts}
+use Rattle.rewriting.specs.Shortest.{numberedText}
+use Rattle.rewriting.specs.Rewriting.{rewrittenText}
+
+-- "Every integer and number in shortest decimal form"
+abbrev pub canonicalText : List ℕ → List ℕ
+canonicalText s = rewrittenText Change.Canonical s 0 (length s)
+
+-- the array's head with one pair more: its tag and colon, the count in shortest form, a colon and a brace
+abbrev pub grownHead : List ℕ → Spot → List ℕ
+grownHead s p = numberedText s (p .at) (p .count + 1) (p .inside - 2) (p .inside)
+
+-- "Both go in as they stand", the head says one more, and references from the new ordinal on are raised, wherever they stand
+abbrev pub insertedText : (s key value : List ℕ) → Spot → List ℕ
+insertedText s key value p =
+    rewrittenText (Change.Raise (p .ordinal)) s 0 (p .at)
+    ++ (grownHead s p ++ (rewrittenText (Change.Raise (p .ordinal)) s (p .inside) (p .gap) ++ (key ++ (value ++ rewrittenText (Change.Raise (p .ordinal)) s (p .gap) (length s)))))
+
+abbrev pub editedText : (s : List ℕ) → Edit → (key value : List ℕ) → List ℕ
+editedText s Edit.Canonical key value = canonicalText s
+editedText s (Edit.Insert p) key value = insertedText s key value p
+
+-- ---- what is edited at all: texts that a plan can hold, and a head whose parts are there
+
+abbrev pub stands : (size : ℕ) → Spot → Bool
+stands n p = leb 2 (p .inside) && (leb (p .at) (p .inside - 2) && (leb (p .inside) n && leb (p .count) numberLimit))
+
+abbrev pub placed : (size : ℕ) → Edit → Bool
+placed n Edit.Canonical = true
+placed n (Edit.Insert p) = stands n p
+
+abbrev pub writable : (size : ℕ) → Edit → (key value : ℕ) → Bool
+writable n e key value = leb n sourceLimit && (leb key sourceLimit && (leb value sourceLimit && placed n e))
+
+-- WHAT WRITING ANSWERS AND LEAVES: the text and its length; nothing of any other edit
+pub data Edits (s : List ℕ) (e : Edit) (key value out out′ : List ℕ) : Edited → Type 0 where
+  written : (n : ℕ) → writable (length s) e (length key) (length value) ≡ true → Puts (editedText s e key value) 0 out n out′ → Edits s e key value out out′ (Edited.Written n)
+  unfit : writable (length s) e (length key) (length value) ≡ false → out′ ≡ out → Edits s e key value out out′ Edited.Unfit
+
+-- an insertion that is written: no index overflows
+pub record Insertable (s key value : List ℕ) (p : Spot) : Type 0 where
+  pub head : stands (length s) p ≡ true
+  pub within : Within (insertedText s key value p) 0

@@ -1,0 +1,4 @@
+pub mod Output
+pub mod Shortest
+pub mod Rewriting
+pub mod Edited

@@ -1,0 +1,60 @@
+// What is written of a source that is edited: its canonical text, or the source with a pair put in. Defined on any bytes; that it is the right text for a plan that was read is shown above.
+use crate::inserted::Spot;
+use crate::inserted::has_head;
+use crate::inserted::write_inserted;
+use crate::rewrite::Change;
+use crate::rewrite::rewrite;
+ghost use mathlib.Core.Path.{_≡_};
+ghost use Rattle.rewriting.specs.Edited.{writable, Edits};
+
+pub mod inserted;
+mod output;
+mod rewrite;
+mod shortest;
+
+// A plan's length, and so that of a text which a plan can hold.
+const SOURCE_LIMIT: usize = 65536;
+
+pub enum Edit {
+    Canonical,
+    Insert(Spot),
+}
+
+// The length of what was written, or that the edit is none of this source.
+pub enum Edited {
+    Written(usize),
+    Unfit,
+}
+
+// Whether texts of these lengths are edited at all: then no index overflows, and what is copied is there.
+fn can_write(size: usize, edit: Edit, key: usize, value: usize) -> bool
+    ensures { λ r. ⌜ r ≡ writable size edit key value ⌝ }
+{
+    if SOURCE_LIMIT < size {
+        return false;
+    }
+    if SOURCE_LIMIT < key {
+        return false;
+    }
+    if SOURCE_LIMIT < value {
+        return false;
+    }
+    match edit {
+        Edit::Canonical => true,
+        Edit::Insert(spot) => has_head(size, spot),
+    }
+}
+
+// Writes the edited source, as far as there is room; into an empty output it is measured.
+pub fn write(source: &[u8], edit: Edit, key: &[u8], value: &[u8], out: &mut [u8]) -> Edited
+    ensures { λ r. ⌜ Edits (now (source .entry)) edit (now (key .entry)) (now (value .entry)) (now (out .entry)) (now (out .exit)) r ⌝ }
+{
+    if !can_write(source.len(), edit, key.len(), value.len()) {
+        return Edited::Unfit;
+    }
+    let length = match edit {
+        Edit::Canonical => rewrite(source, 0, source.len(), Change::Canonical, out, 0),
+        Edit::Insert(spot) => write_inserted(source, spot, key, value, out),
+    };
+    Edited::Written(length)
+}
