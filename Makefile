@@ -45,9 +45,8 @@ $(BUILD)/libtonschnecke.a:
 $(BUILD)/tonschnecke: | $(BUILD)/libtonschnecke.a
 	$(BUILD_COMMAND)
 
-run:
-	rt check nodes
-	target/bin/nodes < examples/year.plan
+run: command
+	examples/run.sh
 
 # the proved library beside a side written from the specification alone; the programs, the C examples and what is installed as
 # a user runs them. The sanitizers watch the examples' own code; the archive is not built with them.
