@@ -26,11 +26,11 @@ day() {
     done
 }
 
-# A month's first line and its last days.
+# A month's first line and its last days: the file, the month, how many days.
 ends() {
-    month "$1" "$2" | head -n 1
-    echo '      ...'
-    month "$1" "$2" | tail -n "$3"
+    local lines
+    mapfile -t lines < <(month "$1" "$2")
+    printf '%s\n' "${lines[0]}" '      ...' "${lines[@]: -$3}"
 }
 
 # A plan's bytes, a token to a line. No text of the year has one of these three bytes in it.

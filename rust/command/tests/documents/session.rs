@@ -40,7 +40,9 @@ pub fn folder(document: &str) -> PathBuf {
             .arg(folder.join(name));
         assert!(copy.status().expect("cp starts").success(), "{name}");
     }
-    let archive = env::var_os("TONSCHNECKE_LIB_DIR").map_or(project().join("build"), PathBuf::from);
+    // As the wrapper's build.rs finds it.
+    let given = env::var_os("TONSCHNECKE_LIB_DIR").unwrap_or("../../build".into());
+    let archive = project().join("rust/tonschnecke").join(given);
     let built = [
         (archive.join("libtonschnecke.a"), "build/libtonschnecke.a"),
         (
