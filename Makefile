@@ -45,19 +45,18 @@ $(BUILD)/libtonschnecke.a:
 $(BUILD)/tonschnecke: | $(BUILD)/libtonschnecke.a
 	$(BUILD_COMMAND)
 
-run:
-	rt check nodes
-	target/bin/nodes < examples/year.plan
+run: command
+	examples/run.sh
 
 # the proved library beside a side written from the specification alone; the programs, the C examples and what is installed as
 # a user runs them. The sanitizers watch the examples' own code; the archive is not built with them.
 compare: archive command
 	rt check nodes
-	tests/nodes.sh $(CURDIR)/target/bin/nodes
-	for example in read canonicalize insert; do \
+	tests/nodes.sh $(CURDIR)/target/bin/nodes $(BUILD)/tonschnecke
+	for example in read canonicalize insert day; do \
 		for checks in '$(SANITIZERS)' ''; do \
 			gcc $(CFLAGS) $$checks -Iinclude examples/$$example.c $(BUILD)/libtonschnecke.a -o $(BUILD)/$$example && \
-			$(BUILD)/$$example > $(BUILD)/$$example.out && \
+			$(BUILD)/$$example < examples/year.plan > $(BUILD)/$$example.out && \
 			diff examples/$$example.out $(BUILD)/$$example.out || exit 1; \
 		done; \
 	done

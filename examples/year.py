@@ -1,5 +1,8 @@
 #!/usr/bin/env python3
-"""Writes year.plan beside itself: the air plan of a leap year, 366 days, as one serialized PHP value.
+"""Writes year.plan beside itself: the air plan of 2024 without its 29 February, as one serialized PHP value.
+
+The days were taken from an ordinary year's calendar, 365 of them, though 2024 is a leap year and the plan says so.
+Putting 29 February in is the example job: `make run`.
 
 The plan is committed; this script is here only to make it again. It draws no random numbers, so every run writes
 the same bytes. There is no newline at the end: it would be a byte after the value, which reading refuses (10).
@@ -12,6 +15,7 @@ import calendar
 import pathlib
 
 YEAR = 2024
+MISSING = (2, 29)
 SEASON = range(5, 10)
 BASINS = ("north", "south")
 
@@ -80,12 +84,16 @@ def plan():
     w.key("months")
     w.value("a:12:{")
     for month in range(1, 13):
-        first, days = calendar.monthrange(YEAR, month)
+        first, last = calendar.monthrange(YEAR, month)
+        # drawn for the missing day too, so that the others have the air of a whole year
+        days = {day: air(month, (first + day - 1) % 7, noise) for day in range(1, last + 1)}
+        if month == MISSING[0]:
+            del days[MISSING[1]]
         w.key(month)
-        w.value(f"a:{days}:{{")
-        for day in range(1, days + 1):
+        w.value(f"a:{len(days)}:{{")
+        for day in days:
             w.key(day)
-            w.day(air(month, (first + day - 1) % 7, noise))
+            w.day(days[day])
         w.put("}")
     w.put("}}")
     return "".join(w.text)

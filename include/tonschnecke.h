@@ -1,13 +1,20 @@
-/* Tonschnecke: reads a PHP-serialized value (a plan) into a table of nodes, writes its canonical text, and puts a pair into one
- * of its arrays.
+/* Tonschnecke: reads a PHP-serialized value (a plan) into a table of nodes, writes its canonical text, and puts a pair into
+ * one of its arrays. docs/GUIDE.md shows how it is used, docs/FORMAT.md what is a plan, with an example of each refusal.
  *
  * Link with libtonschnecke.a. What is said here of the result, the table and the output is proved of the Rattle code,
  * for every source, every table and every output; crates/tonschnecke/specs/Promise.antt says it exactly.
  *
  * The caller of each function owes: source is readable for source_len bytes (key and value for key_len and value_len), table
  * is writable for table_len words (not bytes, not nodes), out for out_len bytes; what is writable overlaps nothing else, and
- * nothing else writes to any of them during the call. A pointer may be null only if its length is 0. A call keeps no pointer, uses no other memory but the stack, and
- * ends for every input. */
+ * nothing else writes to any of them during the call. A pointer may be null only if its length is 0. What table and out hold
+ * before a call has no part in its answer.
+ *
+ * How large: a table of TON_NODE_WORDS * (source_len / 2 + 2) words always has room enough, since no text of a node is shorter
+ * than two bytes and inserting adds two nodes. An out of 65,536 bytes is always long enough.
+ *
+ * A refusal leaves every word of the table 0 and every byte of out as it was. A call keeps no pointer, uses no other memory
+ * but the stack, and ends for every input. There is no global state: threads may call at the same time, each with a table
+ * and an out of its own. */
 #ifndef TONSCHNECKE_H
 #define TONSCHNECKE_H
 
@@ -38,8 +45,8 @@ extern "C" {
  *    10   bytes follow the value                                            the first of them
  *
  * (*) The tag of the innermost value or key; the source's length if a tag was due there.
- * 1 is tested first; then the source is read from left to right: at a tag 3 or 4, then 8, then 7, then the text; in it a run of
- * digits is taken whole and 5 tested before what follows; 6 and 9 behind the text; 10 last. */
+ * 1 is tested first; then the source is read from left to right: at a tag 3 or 4, then 8, then 7, then the text; in it a run
+ * of digits is taken whole and 5 tested before what follows; 6 and 9 behind the text; 10 last. */
 typedef struct {
     uint64_t code, at, nodes, ordinals;
 } ton_reading;
@@ -54,6 +61,9 @@ typedef struct {
  *   3  d, s, O: length of that text, else 0
  *   4  a, O: count of pairs. r, R: index of the node named. Else 0
  *   5  index of the first node after this one and all that it holds
+ *
+ * So of the a or O at node n, the first key is node n + 1, each value is the node behind its key, and the next key, if the
+ * count says that there is one, is the node that the value's word 5 names.
  *
  * An acceptance leaves the words behind the last node as they were. A refusal leaves every word of the table 0.
  *
@@ -91,8 +101,9 @@ ton_writing ton_canonicalize(const uint8_t *source, size_t source_len, uint64_t 
                              size_t out_len);
 
 /* Puts one pair into one array of the source: before the pair at place pair_index (0 is the first), or behind the last one if
- * pair_index is the array's count. array_node is the index of the array's node, as ton_read leaves it in the table. key and
- * value are serialized texts, as i:59; and d:2; and go in as they stand.
+ * pair_index is the array's count. array_node is the index of the array's node in the table that ton_read leaves;
+ * the source is read again, so the table may be another one. key and value are serialized texts, as i:59; and d:2; and go in
+ * as they stand.
  *
  * The bytes written are the old ones with three changes: the array's count, in shortest form; the pair; and the number of each
  * reference to a value behind the new one, which is one higher now, in shortest form. So every reference still names the
@@ -103,7 +114,7 @@ ton_writing ton_canonicalize(const uint8_t *source, size_t source_len, uint64_t 
  * would be refused anyway.
  * Refused: every byte of out is as it was, and every word of the table 0.
  *
- * examples/insert.c is a whole program that calls it. */
+ * examples/insert.c is a whole program that calls it; examples/day.c also finds the array, by the keys that lead to it. */
 ton_writing ton_insert(const uint8_t *source, size_t source_len, size_t array_node, size_t pair_index, const uint8_t *key,
                        size_t key_len, const uint8_t *value, size_t value_len, uint64_t *table, size_t table_len,
                        uint8_t *out, size_t out_len);

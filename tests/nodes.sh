@@ -1,7 +1,8 @@
 #!/usr/bin/env bash
-# The program `nodes`, run as a user would: tests/nodes.sh PROGRAM
+# The program `nodes`, run as a user would: tests/nodes.sh PROGRAM COMMAND, the command being `tonschnecke`
 set -eu
 program=$1
+command=$2
 cd "$(dirname "$0")/.."
 scratch=$(mktemp -d)
 trap 'rm -rf "$scratch"' EXIT
@@ -25,7 +26,7 @@ text() {
 
 printf '' | expect 'an empty plan' 'refused 2 at 0'
 printf 's:5:"basin";' | expect 'a string' '115,1,5,5,0,1'
-printf 'a:1:{i:0;R:2;}' | expect 'the README'"'"'s plan to try' 'refused 6 at 9'
+printf 'a:1:{i:0;R:2;}' | expect 'a reference to no value' 'refused 6 at 9'
 printf 'N;\n' | expect 'a newline behind the plan' 'refused 10 at 2'
 text 65525 | expect '65,536 bytes' '115,1,9,65525,0,1'
 text 65526 | expect '65,537 bytes' 'refused 1 at 0'
@@ -33,9 +34,8 @@ text 65526 | expect '65,537 bytes' 'refused 1 at 0'
 { printf 's:5:"ba'; sleep 0.2; printf 'sin'; sleep 0.2; printf '";'; } | expect 'short reads' '115,1,5,5,0,1'
 { printf 'a:683:{'; for i in $(seq 0 682); do printf 'i:%d;N;' "$i"; done; printf '}'; } | expect 'more nodes than the table has room for' 'refused 7 at 5353'
 
-# The README shows lines of the example year: they are the program's, in this order.
+# The example year: what the command prints, the first lines of which docs/FORMAT.md shows.
 "$program" < examples/year.plan > "$scratch/year"
-grep -E '^    [0-9]+(,[0-9]+){5}$' README.md | sed 's/^    //' > "$scratch/shown"
-test "$(wc -l < "$scratch/shown")" -ge 5
-head -n "$(wc -l < "$scratch/shown")" "$scratch/year" | diff - "$scratch/shown"
-echo 'nodes: as the README says'
+test -s "$scratch/year"
+"$command" nodes examples/year.plan | diff - "$scratch/year"
+echo 'nodes: as a user needs it'

@@ -4,6 +4,22 @@
 //!
 //! What each service answers, and what it leaves in the memory lent to it, is proved of the
 //! library that is linked. This crate turns its numbers into types and does nothing else.
+//!
+//! ```
+//! use tonschnecke::{insert, read, table_words, Insertion, Kind, Nodes, SOURCE_LIMIT};
+//!
+//! let plan = b"a:4:{i:1;d:9.5;i:2;d:10.25;i:4;d:8.75;i:5;R:4;}";
+//! let mut table = vec![0; table_words(plan.len())];
+//! read(plan, &mut table)?;
+//! let root = Nodes::new(plan, &table).get(0).expect("a plan that was read has a root");
+//! assert_eq!(root.kind, Kind::Array { count: 4 });
+//!
+//! let day = Insertion { array_node: 0, pair_index: 2, key: b"i:3;", value: b"d:9.75;" };
+//! let mut out = vec![0; SOURCE_LIMIT];
+//! let length = insert(plan, day, &mut table, &mut out)?;
+//! assert_eq!(&out[..length], b"a:5:{i:1;d:9.5;i:2;d:10.25;i:3;d:9.75;i:4;d:8.75;i:5;R:5;}");
+//! # Ok::<(), tonschnecke::Refusal>(())
+//! ```
 
 mod ffi;
 mod node;

@@ -77,7 +77,7 @@ fn of_the_year() {
     let year = fs::read(YEAR).unwrap();
     let lines = String::from_utf8(pipe(&year, ["nodes"]).out).unwrap();
     let references = lines.lines().filter(|line| line.starts_with("82,")).count();
-    assert_eq!(references, 146);
+    assert_eq!(references, 145);
     let count = lines.lines().filter(|line| line.starts_with("97,")).count();
     assert!(count > 13);
     assert_eq!(lead_back(&year), count);

@@ -90,8 +90,8 @@ fn of_a_node_that_is_no_array() {
     refused(&["--node", "4"], "/leap is true, and no array");
     refused(&["--node", "1"], "node 1 is the key \"year\", and no array");
     refused(
-        &["--node", "1191"],
-        "there is no node 1191; the last is node 1190",
+        &["--node", "1189"],
+        "there is no node 1189; the last is node 1188",
     );
     refused(
         &["--array", "/months/1/24"],
