@@ -18,15 +18,17 @@ pub fn token(source: &[u8], at: usize) -> Scan
     }
     let tag = source[at];
     match tag {
-        b'}' => Scan::Is(Text {
-            content: 0,
-            size: 0,
-            link: 0,
-            next: at + 1,
-        }),
-        Kind::ARRAY => array(source, at + 1),
-        Kind::OBJECT => object(source, at + 1),
-        Kind::OBJECT_REFERENCE | Kind::VARIABLE_REFERENCE => named(source, at + 1),
-        _ => scalar(source, at + 1, tag),
+        b'}' => {
+            return Scan::Is(Text {
+                content: 0,
+                size: 0,
+                link: 0,
+                next: at + 1,
+            });
+        }
+        Kind::ARRAY => return array(source, at + 1),
+        Kind::OBJECT => return object(source, at + 1),
+        Kind::OBJECT_REFERENCE | Kind::VARIABLE_REFERENCE => return named(source, at + 1),
+        _ => return scalar(source, at + 1, tag),
     }
 }

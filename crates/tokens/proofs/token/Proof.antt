@@ -13,8 +13,8 @@ returns c = answered (scanned.token-none _ _ (c .if1 .taken))
 shared-slice-read-tag : tie.Need-shared-slice-read-tag
 shared-slice-read-tag c = search needs
 
-add-t9 : tie.Need-add-t9
-add-t9 c = search needs
+add-t8 : tie.Need-add-t8
+add-t8 c = search needs
 
 add-array : tie.Need-add-array
 add-array c = search needs
@@ -61,17 +61,17 @@ token-spec =
     (tie.spec
     returns
     shared-slice-read-tag
-    add-t9
+    add-t8
+    returns-2
     add-array
     array-requires
+    returns-3
     add-object
     object-requires
+    returns-4
     add-named
     named-requires
+    returns-5
     add-scalar
     scalar-requires
-    returns-2
-    returns-3
-    returns-4
-    returns-5
     returns-6)
