@@ -10,7 +10,8 @@
  * before a call has no part in its answer.
  *
  * How large: a table of TON_NODE_WORDS * (source_len / 2 + 2) words always has room enough, since no text of a node is shorter
- * than two bytes and inserting adds two nodes. An out of 65,536 bytes is always long enough.
+ * than two bytes and inserting adds two nodes. (This sentence alone is no theorem: it follows from the grammar, and is tested.)
+ * An out of 65,536 bytes is always long enough.
  *
  * A refusal leaves every word of the table 0 and every byte of out as it was. A call keeps no pointer, uses no other memory
  * but the stack, and ends for every input. There is no global state: threads may call at the same time, each with a table
