@@ -7,8 +7,8 @@ use crate::random::Random;
 /// The table the thin program lends.
 const PROGRAM_TABLE: usize = 8_190;
 
-/// An output longer than every plan.
-const SPACIOUS_OUTPUT: usize = 65_600;
+/// Outputs about as long as the longest plan.
+const SPACIOUS_OUTPUTS: [usize; 3] = [65_535, 65_536, 65_600];
 
 /// An output that would suffice for many insertions.
 const REFUSED_OUTPUT: usize = 100;
@@ -76,8 +76,8 @@ fn outputs_around(survey: &Survey, source_len: usize, random: &mut Random) -> Ve
     if random.one_in(4) {
         lengths.push(random.below(enough));
     }
-    if random.one_in(64) {
-        lengths.push(SPACIOUS_OUTPUT);
+    if random.one_in(16) {
+        lengths.push(random.pick(&SPACIOUS_OUTPUTS));
     }
     lengths
 }
@@ -103,8 +103,8 @@ pub fn around_insertion(
     let Some(exact) = to_write else {
         return around_refused_insertion(survey, place, random);
     };
-    let larger = match random.one_in(64) {
-        true => SPACIOUS_OUTPUT,
+    let larger = match random.one_in(16) {
+        true => random.pick(&SPACIOUS_OUTPUTS),
         false => exact + random.between(1, 40),
     };
     let mut lengths = vec![

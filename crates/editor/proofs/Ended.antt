@@ -21,7 +21,7 @@ use Rattle.format.proofs.Inversion.{read-ok}
 use Rattle.format.proofs.Results.{after-length}
 use Rattle.format.specs.Writing.{fitsIn, withRoom, canonicalBytes}
 use Rattle.editor.specs.Promise.{answerOf, Writes}
-use Rattle.editor.specs.Ends.{Refuses, Settles, Sound}
+use Rattle.editor.specs.Ends.{Refuses, Settles, Short, Roomed, Sound}
 use Rattle.tokens.specs.Tokens.{Token, tokens, writeTokens}
 use Rattle.tokens.specs.Between.{Stretch}
 use Rattle.tokens.proofs.TokenLaws.{tokens-write, tokens-canonical, tokens-fit}
@@ -32,7 +32,7 @@ use Rattle.rewriting.specs.Output.{Puts}
 use Rattle.rewriting.specs.Rewriting.{changedText}
 use Rattle.rewriting.specs.Edited.{canonicalText, editedText, writable}
 use Rattle.rewriting.specs.declared.inserted.Spot.{Spot}
-use Rattle.rewriting.proofs.Editable.{Kept, by-place}
+use Rattle.rewriting.proofs.Editable.{Kept, by-place, edited-most}
 use Rattle.rewriting.proofs.Measures.{texts-inside}
 use Rattle.placing.specs.Locating.{Located}
 use Rattle.editor.specs.declared.Writing.{Writing}
@@ -40,7 +40,7 @@ use Rattle.editor.proofs.Canonicalizing.{by-value}
 
 -- ---- 14
 
-differ : true ≡ false → ⊥
+pub differ : true ≡ false → ⊥
 differ e = let z : _≡_ {A = ℕ} 0 1 = cc in omega arith
 
 pub room-short : (room length : ℕ) → room < length → fitsIn room length ≡ false
@@ -49,33 +49,40 @@ room-short room length h = rw (lt-leb length room h)
 pub room-is : (room length : ℕ) → length ≤ room → fitsIn room length ≡ leb length sourceLimit
 room-is room length h = rw (le-leb length room h)
 
--- a text put where there is no room for any of it leaves nothing, and is measured
-module _ {bytes : List ℕ} {n : ℕ} {part : List ℕ} (measured : Puts bytes 0 [] n part) (out : List ℕ) where
-  size : n ≡ length bytes
-  size = measured .end ∙ zero-add (length bytes)
+-- a text put where there is no room for any of it leaves nothing
+pub untouched : {bytes : List ℕ} {n : ℕ} {part : List ℕ} → Puts bytes 0 [] n part → (out : List ℕ) → part ++ out ≡ out
+untouched {bytes} {part = part} measured out = go part (ap length (measured .text) ∙ length-sets [] 0 bytes)
+  where
+    go : (p : List ℕ) → length p ≡ 0 → p ++ out ≡ out
+    go [] e = refl
+    go (x ∷ p) e = absurd (omega (arith, e))
 
-  pub untouched : part ++ out ≡ out
-  untouched = go part (ap length (measured .text) ∙ length-sets [] 0 bytes)
-    where
-      go : (p : List ℕ) → length p ≡ 0 → p ++ out ≡ out
-      go [] e = refl
-      go (x ∷ p) e = absurd (omega (arith, e))
+-- the output as it was
+pub puts-on : {bytes out out₁ : List ℕ} {n : ℕ} {out′ : List ℕ} → out₁ ≡ out → Puts bytes 0 out₁ n out′ → Puts bytes 0 out n out′
+puts-on {bytes} {n = n} {out′} e p = subst (λ (o : List ℕ). Puts bytes 0 o n out′) e p
 
-  module _ (f : fitsIn (length out) n ≡ true) where
-    fits : n ≤ length out
-    fits = leb→le n (length out) (and-left (leb n (length out)) (leb n sourceLimit) (T-of f))
+pub writes-on : {text : Answer (List ℕ)} {source before after out out₁ : List ℕ} {r : Writing} → out₁ ≡ out → Writes text source before after out out r → Writes text source before after out out₁ r
+writes-on {text} {source} {before} {after} {out} {r = r} e w = subst (λ (o : List ℕ). Writes text source before after out o r) (sym e) w
 
-    module _ {e : ℕ} {out′ : List ℕ} (put : Puts bytes 0 (part ++ out) e out′) where
-      -- the bytes in front, and behind them what was there
-      written : out′ ≡ over bytes out
-      written = put .text ∙ ap (λ (l : List ℕ). sets l 0 bytes) untouched ∙ sets-eq bytes out 0 (omega (arith, fits, size)) ∙ ap (λ (k : ℕ). bytes ++ drop k out) (zero-add (length bytes))
+-- a text for which there is room, put in front
+module _ {bytes : List ℕ} {n : ℕ} {out out′ : List ℕ} (put : Puts bytes 0 out n out′) where
+  pub size : n ≡ length bytes
+  size = put .end ∙ zero-add (length bytes)
 
-      pub prefix-inside : n ≤ length out′
-      prefix-inside = omega (arith, fits, ap length (put .text) ∙ length-sets (part ++ out) 0 bytes, ap length untouched)
+  module _ (f : fitsIn (length out) (length bytes) ≡ true) where
+    fits : length bytes ≤ length out
+    fits = leb→le (length bytes) (length out) (and-left (leb (length bytes) (length out)) (leb (length bytes) sourceLimit) (T-of f))
 
-      -- what is read again is what was written
-      prefix : take n out′ ≡ bytes
-      prefix = ap (λ (k : ℕ). take k out′) size ∙ ap (take (length bytes)) written ∙ take-append-seam bytes (drop (length bytes) out)
+    -- behind it what was there
+    written : out′ ≡ over bytes out
+    written = put .text ∙ sets-eq bytes out 0 (omega (arith, fits)) ∙ ap (λ (k : ℕ). bytes ++ drop k out) (zero-add (length bytes))
+
+    pub prefix-inside : n ≤ length out′
+    prefix-inside = omega (arith, fits, size, ap length (put .text) ∙ length-sets out 0 bytes)
+
+    -- what is read again is what was written
+    prefix : take n out′ ≡ bytes
+    prefix = ap (λ (k : ℕ). take k out′) size ∙ ap (take (length bytes)) written ∙ take-append-seam bytes (drop (length bytes) out)
 
 -- ---- what is answered and left, the bytes to write being known
 
@@ -92,29 +99,45 @@ module _ {text : Answer (List ℕ)} (source before out : List ℕ) where
       subst (Writes text source before after out out) (sym (f .answer))
       (writes-refused e (f .table ∙ ap (λ (k : ℕ). replicate k 0) (ap length t ∙ after-length source before)))
 
-  module _ {bytes : List ℕ} (e : text ≡ withRoom (length out) bytes) {between : List ℕ} (t : between ≡ tableAfter source before) {n : ℕ} {part : List ℕ} (measured : Puts bytes 0 [] n part) where
-    roomed : (b : Bool) → fitsIn (length out) n ≡ b → text ≡ (require b 14 0 >>= λ u. ok bytes)
-    roomed b f = e ∙ ap (λ (b : Bool). require b 14 0 >>= λ u. ok bytes) (ap (fitsIn (length out)) (sym (size measured out)) ∙ f)
+  module _ (bytes : List ℕ) (e : text ≡ withRoom (length out) bytes) where
+    roomed : (b : Bool) → fitsIn (length out) (length bytes) ≡ b → text ≡ (require b 14 0 >>= λ u. ok bytes)
+    roomed b f = e ∙ ap (λ (b : Bool). require b 14 0 >>= λ u. ok bytes) f
 
-    -- no room: every word is zero, and nothing is written
-    pub writes-14 : {after : List ℕ} {r : Writing} → fitsIn (length out) n ≡ false → Refuses between after r → Writes text source before after out (part ++ out) r
-    writes-14 {after} {r} f c = subst (λ (o : List ℕ). Writes text source before after out o r) (sym (untouched measured out)) (writes-refusal t (roomed false f) c)
-
-    pub writes-text : (f : fitsIn (length out) n ≡ true) {m : ℕ} {out′ : List ℕ} → Puts bytes 0 (part ++ out) m out′ → {after : List ℕ} {r : Writing} → Settles (take n out′) between after r → Writes text source before after out out′ r
+    pub writes-text : {between : List ℕ} → between ≡ tableAfter source before → fitsIn (length out) (length bytes) ≡ true → {n : ℕ} {out′ : List ℕ} → Puts bytes 0 out n out′ → {after : List ℕ} {r : Writing} → Settles (take n out′) between after r
+        → Writes text source before after out out′ r
     unfolding answerOf
-    writes-text f {m} {out′} put {after} {r} c =
-        let same : take n out′ ≡ bytes = prefix measured out f put in
+    writes-text t f {n} {out′} put {after} {r} c =
+        let same : take n out′ ≡ bytes = prefix put f in
         subst (λ (a : Answer (List ℕ)). Writes a source before after out out′ r) (sym (roomed true f))
         (subst (Writes (ok bytes) source before after out out′) (sym (c .answer ∙ ap (λ (l : List ℕ). Writing.Written (length l)) same))
-        (record { answer = refl; leaves = record { table = c .table ∙ ap₂ tableAfter same t; output = written measured out f put } }))
+        (record { answer = refl; leaves = record { table = c .table ∙ ap₂ tableAfter same t; output = written put f } }))
 
 -- ---- an edit
 
+pub short : (room source key value : ℕ) → sourceLimit ≤ room → source ≤ 10000 → key ≤ 2000 → leb value 2000 ≡ true → Short room source key value
+short room source key value h i j e = record { enough = h; low = omega (arith, i, j, leb→le value 2000 (T-of e)) }
+
+pub short-room : {room : ℕ} (source : List ℕ) (e : Edit) (key value : List ℕ) → Short room (length source) (length key) (length value) → writable (length source) e (length key) (length value) ≡ true → true ≡ fitsIn room (length (editedText source e key value))
+short-room {room} source e key value h f =
+    let n : ℕ = length (editedText source e key value) in
+    let m : n ≤ sourceLimit = omega (arith, edited-most source e key value f, h .low) in
+    sym (rw (le-leb n room (omega (arith, m, h .enough)), le-leb n sourceLimit m))
+
+module _ (source : List ℕ) (e : Edit) (key value : List ℕ) where
+  -- what is not edited at all was not measured
+  pub unfit-roomed : {out part : List ℕ} → Kept source e key value [] part → Roomed source e key value out (part ++ out) false
+  unfit-roomed {out} k = record { same = ap (λ (p : List ℕ). p ++ out) (k .same); room = λ w. absurd (differ (sym w ∙ k .unfit)) }
+
+  pub measured-roomed : (out : List ℕ) {n : ℕ} {part : List ℕ} → Puts (editedText source e key value) 0 [] n part → {r : Bool} → r ≡ fitsIn (length out) n → Roomed source e key value out (part ++ out) r
+  measured-roomed out put i = record { same = untouched put out; room = λ w. i ∙ ap (fitsIn (length out)) (size put) }
+
 module _ {source : List ℕ} {e : Edit} {key value : List ℕ} (z : Sound source e key value) {text : Answer (List ℕ)} (room : ℕ) (f : text ≡ withRoom room (editedText source e key value)) where
+  no-room : fitsIn room (length (editedText source e key value)) ≡ false → text ≡ refused 14 0
+  no-room g = f ∙ ap (λ (b : Bool). require b 14 0 >>= λ u. ok (editedText source e key value)) g
+
   too-long : {n : ℕ} → n ≤ length (editedText source e key value) → sourceLimit < n → text ≡ refused 14 0
   too-long {n} h i =
-      f ∙ ap (λ (b : Bool). require b 14 0 >>= λ u. ok (editedText source e key value))
-      (T-false (fitsIn room (length (editedText source e key value)))
+      no-room (T-false (fitsIn room (length (editedText source e key value)))
       (not-T (fitsIn room (length (editedText source e key value))) (λ t.
       let m : ℕ = length (editedText source e key value) in
       let j : m ≤ sourceLimit = leb→le m sourceLimit (and-right (leb m room) (leb m sourceLimit) t) in
@@ -129,11 +152,12 @@ module _ {source : List ℕ} {e : Edit} {key value : List ℕ} (z : Sound source
       by (above h) (below i) = too-long (z .value) i
       by (above h) (above i) = absurd (differ (sym (by-place (length source) e (length key) (length value) (z .short) h i ∙ z .place) ∙ g))
 
-module _ {source : List ℕ} {e : Edit} {key value : List ℕ} {text : Answer (List ℕ)} (before out : List ℕ) where
-  pub writes-unfit : Sound source e key value → text ≡ withRoom (length out) (editedText source e key value) → {between : List ℕ} → between ≡ tableAfter source before → {part : List ℕ} → Kept source e key value [] part → {after : List ℕ} {r : Writing} → Refuses between after r
-      → Writes text source before after out (part ++ out) r
-  writes-unfit z f t {part} k {after} {r} c =
-      subst (λ (l : List ℕ). Writes text source before after out (l ++ out) r) (sym (k .same)) (writes-refusal source before out t (unfit-14 z (length out) f (k .unfit)) c)
+  pub full-14 : (writable (length source) e (length key) (length value) ≡ true → false ≡ fitsIn room (length (editedText source e key value))) → text ≡ refused 14 0
+  full-14 g = by (writable (length source) e (length key) (length value)) refl
+    where
+      by : (b : Bool) → writable (length source) e (length key) (length value) ≡ b → text ≡ refused 14 0
+      by true w = no-room (sym (g w))
+      by false w = unfit-14 w
 
 -- ---- retyping
 

@@ -1,15 +1,15 @@
 -- How a service that writes ends.
 use mathlib.Core.Path.{_≡_}
 use mathlib.Core.List.{List}
-use mathlib.Core.Bool.{true}
-use Prim.Native.Nat.{ℕ, _≤_}
+use mathlib.Core.Bool.{Bool, true}
+use Prim.Native.Nat.{ℕ, _+_, _*_, _≤_}
 use lib.ListN.{length}
 use Rattle.format.specs.Limits.{sourceLimit}
 use Rattle.format.specs.Answer.{Answer}
 use Rattle.format.specs.Reading.{cleared, tableAfter}
-use Rattle.format.specs.Writing.{withRoom}
+use Rattle.format.specs.Writing.{fitsIn, withRoom}
 use Rattle.rewriting.specs.declared.Edit.{Edit}
-use Rattle.rewriting.specs.Edited.{editedText, placed}
+use Rattle.rewriting.specs.Edited.{editedText, placed, writable}
 use Rattle.editor.specs.declared.Writing.{Writing}
 use Rattle.editor.specs.Promise.{Writes}
 
@@ -22,6 +22,16 @@ pub record Refuses (t t′ : List ℕ) (r : Writing) : Type 0 where
 pub record Settles (bytes t t′ : List ℕ) (r : Writing) : Type 0 where
   pub answer : r ≡ Writing.Written (length bytes)
   pub table : t′ ≡ tableAfter bytes t
+
+-- lengths of texts that need not be measured: what is written is at most six times the source, with the texts and a head of nine bytes
+pub record Short (room source key value : ℕ) : Type 0 where
+  pub enough : sourceLimit ≤ room
+  pub low : 6 * source + key + value + 9 ≤ sourceLimit
+
+-- whether there is room, of an edit that is written at all; the output is as it was
+pub record Roomed (s : List ℕ) (e : Edit) (key value out out′ : List ℕ) (r : Bool) : Type 0 where
+  pub same : out′ ≡ out
+  pub room : writable (length s) e (length key) (length value) ≡ true → r ≡ fitsIn (length out) (length (editedText s e key value))
 
 -- an edit of a plan that was read: it has its place there, and its texts are part of what is written
 pub record Sound (s : List ℕ) (e : Edit) (k v : List ℕ) : Type 0 where

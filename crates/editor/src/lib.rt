@@ -6,14 +6,20 @@ use rewriting::Edit;
 use rewriting::Edited;
 use rewriting::write;
 ghost use mathlib.Core.Path.{_≡_};
+ghost use mathlib.Core.Bool.{true};
 ghost use lib.ListN.{length};
 ghost use Rattle.format.specs.Reading.{capacityOf};
 ghost use Rattle.format.specs.Writing.{fitsIn, canonicalBytes, insertBytes};
 ghost use Rattle.editor.specs.Promise.{Writes};
-ghost use Rattle.editor.specs.Ends.{Refuses, Settles, Finishes};
+ghost use Rattle.editor.specs.Ends.{Refuses, Settles, Short, Roomed, Finishes};
 
 // "bytes to write exceed the output's length or 65,536" is refused.
 const SOURCE_LIMIT: usize = 65536;
+
+// What is written of so short a source, key and value is never longer than a plan may be.
+const SHORT_SOURCE: usize = 10000;
+
+const SHORT_TEXT: usize = 2000;
 
 // What a service that writes a plan answers: the length written, or a refusal's number and position.
 pub enum Writing {
@@ -49,6 +55,37 @@ fn settle(written: &[u8], table: &mut [u64]) -> Writing
     }
 }
 
+// Whether texts of these lengths need not be measured: the output has room for whatever is written.
+fn is_short(room: usize, source: usize, key: usize, value: usize) -> bool
+    ensures { λ r. ⌜ (r ≡ true → Short room source key value) ⌝ }
+{
+    if room < SOURCE_LIMIT {
+        return false;
+    }
+    if SHORT_SOURCE < source {
+        return false;
+    }
+    if SHORT_TEXT < key {
+        return false;
+    }
+    value <= SHORT_TEXT
+}
+
+// Whether there is room for the edited plan. Written where there is none for any of it, a longer one is only measured.
+fn room_for(source: &[u8], edit: Edit, key: &[u8], value: &[u8], out: &mut [u8]) -> bool
+    ensures { λ r. ⌜ Roomed (now (source .entry)) edit (now (key .entry)) (now (value .entry)) (now (out .entry)) (now (out .exit)) r ⌝ }
+{
+    let room = out.len();
+    if is_short(room, source.len(), key.len(), value.len()) {
+        return true;
+    }
+    let measured = write(source, edit, key, value, &mut out[..0]);
+    let Edited::Written(length) = measured else {
+        return false;
+    };
+    has_room(room, length)
+}
+
 // 14, and then the edited plan is written and read.
 fn write_plan(
     source: &[u8],
@@ -60,17 +97,14 @@ fn write_plan(
 ) -> Writing
     ensures { λ r. ⌜ Finishes (now (source .entry)) edit (now (key .entry)) (now (value .entry)) (now (table .entry)) (now (table .exit)) (now (out .entry)) (now (out .exit)) r ⌝ }
 {
-    let room = out.len();
-    // Written where there is no room for any of it, the text is only measured.
-    let measured = write(source, edit, key, value, &mut out[..0]);
-    let Edited::Written(length) = measured else {
+    if !room_for(source, edit, key, value, out) {
+        return refuse(table);
+    }
+    let written = write(source, edit, key, value, out);
+    let Edited::Written(length) = written else {
         // A key or a value longer than any plan.
         return refuse(table);
     };
-    if !has_room(room, length) {
-        return refuse(table);
-    }
-    write(source, edit, key, value, out);
     settle(&out[..length], table)
 }
 

@@ -1,5 +1,5 @@
 -- What is edited at all. Assumes nothing.
-use Prim.Native.Nat.{ℕ, _+_, _≤_}
+use Prim.Native.Nat.{ℕ, _+_, _*_, _≤_}
 use native.Mathlib.Omega.{arith}
 use mathlib.Core.Path.{_≡_, refl, sym, ap, _∙_, subst}
 use mathlib.Core.Bool.{Bool, true, false, _&&_}
@@ -15,7 +15,7 @@ use Rattle.rewriting.specs.declared.inserted.Spot.{Spot}
 use Rattle.rewriting.specs.Output.{Within, Puts}
 use Rattle.rewriting.specs.Edited.{canonicalText, insertedText, editedText, stands, placed, writable, Edits, written, unfit, Insertable}
 use Rattle.rewriting.proofs.Outputs.{puts-as}
-use Rattle.rewriting.proofs.Measures.{insertable, canonical-within}
+use Rattle.rewriting.proofs.Measures.{insertable, inserted-most, canonical-text-most, canonical-within}
 
 -- ---- the tests, one after another
 
@@ -80,6 +80,11 @@ pub as-insert : {e : Edit} {p : Spot} (s key value : List ℕ) → e ≡ Edit.In
 as-insert s key value i = ap (λ (d : Edit). editedText s d key value) i
 
 -- ---- for those who edit
+
+-- how long it is at most
+pub edited-most : (s : List ℕ) (e : Edit) (key value : List ℕ) → writable (length s) e (length key) (length value) ≡ true → length (editedText s e key value) ≤ 6 * length s + length key + length value + 9
+edited-most s Edit.Canonical key value f = omega (arith, canonical-text-most s)
+edited-most s (Edit.Insert p) key value f = inserted-most s key value p (sizes (length s) (Edit.Insert p) (length key) (length value) f .standing)
 
 pub record Put (s : List ℕ) (e : Edit) (key value out out′ : List ℕ) (n : ℕ) : Type 0 where
   pub fit : writable (length s) e (length key) (length value) ≡ true

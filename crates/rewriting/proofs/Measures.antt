@@ -125,11 +125,17 @@ module _ (s key value : List ℕ) (p : Spot) where
           length-slice (p .inside - 2) (p .inside) s (h .inside),
         )
 
+    pub inserted-most : length (insertedText s key value p) ≤ 6 * length s + length key + length value + 9
+    inserted-most = omega (arith, inserted-length, head-most, rewritten-most c s 0 (p .at), rewritten-most c s (p .inside) (p .gap), rewritten-most c s (p .gap) (length s))
+
     pub insertable : length s ≤ sourceLimit → length key ≤ sourceLimit → length value ≤ sourceLimit → Insertable s key value p
     insertable h i j = record {
       head = e;
-      within = record { low = omega (arith, inserted-length, head-most, rewritten-most c s 0 (p .at), rewritten-most c s (p .inside) (p .gap), rewritten-most c s (p .gap) (length s)) };
+      within = record { low = omega (arith, inserted-most) };
     }
 
+pub canonical-text-most : (s : List ℕ) → length (canonicalText s) ≤ 2 * length s
+canonical-text-most s = rewritten-most Change.Canonical s 0 (length s)
+
 pub canonical-within : (s : List ℕ) → length s ≤ sourceLimit → Within (canonicalText s) 0
-canonical-within s h = record { low = omega (arith, rewritten-most Change.Canonical s 0 (length s)) }
+canonical-within s h = record { low = omega (arith, canonical-text-most s) }

@@ -8,20 +8,8 @@ use borrow.Author.Needs.{needs}
 use Rattle.editor.proofs.write_plan.Statement.{statement}
 use Rattle.editor.proofs.write_plan.Tie as tie
 
-slice-relend-prefix-write : tie.Need-slice-relend-prefix-write
-slice-relend-prefix-write c = search needs
-
-slice-aggregate-write : tie.Need-slice-aggregate-write
-slice-aggregate-write c = sym (length-take-le _ (c .before .before .before .before .before .before .args .out .now) (slice-relend-prefix-write (c .before)))
-
-write-requires : tie.Need-write-requires
-write-requires c κs = search needs
-
-enum-known-measured : tie.Need-enum-known-measured
-enum-known-measured c = search needs
-
-enum-told : tie.Need-enum-told
-enum-told c = search needs
+room-for-requires : tie.Need-room-for-requires
+room-for-requires c κs = search needs
 
 refuse-requires : tie.Need-refuse-requires
 refuse-requires c κs = search needs
@@ -33,10 +21,16 @@ same-length-2 : tie.Need-same-length-2
 same-length-2 c = search needs
 
 returns : tie.Need-returns
-returns c = λ before text z t f. ended.writes-unfit _ _ z f t (edits.unfit-of (c .before .before .before .before .before .before .before .before .write .ensures) (c .before .before .before .before .enum-told .given .1)) (c .before .before .refuse .ensures)
+returns c = λ before text z t f. ended.writes-on (c .before .before .before .before .before .before .before .room-for .ensures .same) (ended.writes-refusal _ _ _ t (ended.full-14 z _ f (λ w. sym (not-true _ (c .before .before .before .before .if1 .taken)) ∙ c .before .before .before .before .before .before .before .room-for .ensures .room w)) (c .before .before .refuse .ensures))
 
-has-room-requires : tie.Need-has-room-requires
-has-room-requires c κs = search needs
+write-requires : tie.Need-write-requires
+write-requires c κs = search needs
+
+enum-known-written : tie.Need-enum-known-written
+enum-known-written c = search needs
+
+enum-told : tie.Need-enum-told
+enum-told c = search needs
 
 refuse-requires-2 : tie.Need-refuse-requires-2
 refuse-requires-2 c κs = search needs
@@ -48,16 +42,13 @@ same-length-4 : tie.Need-same-length-4
 same-length-4 c = search needs
 
 returns-2 : tie.Need-returns-2
-returns-2 c = λ before text z t f. ended.writes-14 _ _ _ f t ((edits.written-of (c .before .before .before .before .before .before .before .before .before .before .before .write .ensures) (c .before .before .before .before .before .before .before .measured .given .1)) .text) (sym (c .before .before .before .before .before .has-room .ensures) ∙ not-true _ (c .before .before .before .before .if1 .taken)) (c .before .before .refuse2 .ensures)
-
-write-requires-2 : tie.Need-write-requires-2
-write-requires-2 c κs = search needs
+returns-2 c = λ before text z t f. ended.writes-on (edits.unfit-of (c .before .before .before .before .before .before .before .before .write .ensures) (c .before .before .before .before .enum-told .given .1) .same ∙ c .before .before .before .before .before .before .before .before .before .before .before .before .before .room-for .ensures .same) (ended.writes-refusal _ _ _ t (ended.unfit-14 z _ f (edits.unfit-of (c .before .before .before .before .before .before .before .before .write .ensures) (c .before .before .before .before .enum-told .given .1) .unfit)) (c .before .before .refuse2 .ensures))
 
 slice-reshare-prefix-settle : tie.Need-slice-reshare-prefix-settle
-slice-reshare-prefix-settle c = ended.prefix-inside ((edits.written-of (c .before .before .before .before .before .before .before .before .before .before .before .write .ensures) (c .before .before .before .before .before .before .before .measured .given .1)) .text) (c .before .before .before .before .before .before .before .before .before .before .before .before .before .before .before .before .before .before .args .out .now) (sym (c .before .before .before .before .before .has-room .ensures) ∙ not-false _ (c .before .before .before .before .if1 .left)) ((edits.written-fit (c .before .before .write2 .ensures) (edits.written-of (c .before .before .before .before .before .before .before .before .before .before .before .write .ensures) (c .before .before .before .before .before .before .before .measured .given .1) .fit)) .1 .text)
+slice-reshare-prefix-settle c = ended.prefix-inside (ended.puts-on (c .before .before .before .before .before .before .before .before .before .before .room-for .ensures .same) (edits.written-of (c .before .before .before .before .before .write .ensures) (c .before .written .given .1) .text)) (sym (c .before .before .before .before .before .before .before .before .before .before .room-for .ensures .room (edits.written-of (c .before .before .before .before .before .write .ensures) (c .before .written .given .1) .fit)) ∙ not-false _ (c .before .before .before .before .before .before .before .if1 .left))
 
 slice-aggregate-settle : tie.Need-slice-aggregate-settle
-slice-aggregate-settle c = sym (length-take-le _ _ (ended.prefix-inside ((edits.written-of (c .before .before .before .before .before .before .before .before .before .before .before .before .write .ensures) (c .before .before .before .before .before .before .before .before .measured .given .1)) .text) (c .before .before .before .before .before .before .before .before .before .before .before .before .before .before .before .before .before .before .before .args .out .now) (sym (c .before .before .before .before .before .before .has-room .ensures) ∙ not-false _ (c .before .before .before .before .before .if1 .left)) ((edits.written-fit (c .before .before .before .write2 .ensures) (edits.written-of (c .before .before .before .before .before .before .before .before .before .before .before .before .write .ensures) (c .before .before .before .before .before .before .before .before .measured .given .1) .fit)) .1 .text)))
+slice-aggregate-settle c = sym (length-take-le _ _ (ended.prefix-inside (ended.puts-on (c .before .before .before .before .before .before .before .before .before .before .before .room-for .ensures .same) (edits.written-of (c .before .before .before .before .before .before .write .ensures) (c .before .before .written .given .1) .text)) (sym (c .before .before .before .before .before .before .before .before .before .before .before .room-for .ensures .room (edits.written-of (c .before .before .before .before .before .before .write .ensures) (c .before .before .written .given .1) .fit)) ∙ not-false _ (c .before .before .before .before .before .before .before .before .if1 .left))))
 
 settle-requires : tie.Need-settle-requires
 settle-requires c κs = search needs
@@ -69,27 +60,24 @@ same-length-6 : tie.Need-same-length-6
 same-length-6 c = search needs
 
 returns-3 : tie.Need-returns-3
-returns-3 c = λ before text z t f. ended.writes-text _ _ _ f t ((edits.written-of (c .before .before .before .before .before .before .before .before .before .before .before .before .before .before .before .before .write .ensures) (c .before .before .before .before .before .before .before .before .before .before .before .before .measured .given .1)) .text) (sym (c .before .before .before .before .before .before .before .before .before .before .has-room .ensures) ∙ not-false _ (c .before .before .before .before .before .before .before .before .before .if1 .left)) ((edits.written-fit (c .before .before .before .before .before .before .before .write2 .ensures) (edits.written-of (c .before .before .before .before .before .before .before .before .before .before .before .before .before .before .before .before .write .ensures) (c .before .before .before .before .before .before .before .before .before .before .before .before .measured .given .1) .fit)) .1 .text) (c .before .before .settle .ensures)
+returns-3 c = λ before text z t f. ended.writes-text _ _ _ _ f t (sym (c .before .before .before .before .before .before .before .before .before .before .before .before .before .before .before .room-for .ensures .room (edits.written-of (c .before .before .before .before .before .before .before .before .before .before .write .ensures) (c .before .before .before .before .before .before .written .given .1) .fit)) ∙ not-false _ (c .before .before .before .before .before .before .before .before .before .before .before .before .if1 .left)) (ended.puts-on (c .before .before .before .before .before .before .before .before .before .before .before .before .before .before .before .room-for .ensures .same) (edits.written-of (c .before .before .before .before .before .before .before .before .before .before .write .ensures) (c .before .before .before .before .before .before .written .given .1) .text)) (c .before .before .settle .ensures)
 
 pub write-plan-spec : {M : Type 1} → statement M
 write-plan-spec =
     tie.close
     (tie.spec
-    slice-relend-prefix-write
-    slice-aggregate-write
-    write-requires
-    enum-known-measured
-    enum-told
+    room-for-requires
     refuse-requires
     same-length
     same-length-2
     returns
-    has-room-requires
+    write-requires
+    enum-known-written
+    enum-told
     refuse-requires-2
     same-length-3
     same-length-4
     returns-2
-    write-requires-2
     slice-reshare-prefix-settle
     slice-aggregate-settle
     settle-requires

@@ -1,0 +1,61 @@
+-- `editor::room_for` meets its contract. Assumes nothing.
+use lib.Seq.{length-take-le}
+use mathlib.Core.Path.{refl, sym}
+use Rattle.rewriting.proofs.Editable as edits
+use Rattle.editor.proofs.Ended as ended
+use borrow.Author.Needs.{needs}
+use Rattle.editor.proofs.room_for.Statement.{statement}
+use Rattle.editor.proofs.room_for.Tie as tie
+
+is-short-requires : tie.Need-is-short-requires
+is-short-requires c κs = search needs
+
+returns : tie.Need-returns
+returns c = record { same = refl; room = ended.short-room (c .before .before .before .before .before .before .args .source .now) (c .before .before .before .before .before .before .args .edit) (c .before .before .before .before .before .before .args .key .now) (c .before .before .before .before .before .before .args .value .now) (c .before .is-short .ensures (c .if1 .taken)) }
+
+slice-relend-prefix-write : tie.Need-slice-relend-prefix-write
+slice-relend-prefix-write c = search needs
+
+slice-aggregate-write : tie.Need-slice-aggregate-write
+slice-aggregate-write c = sym (length-take-le _ (c .before .before .before .before .before .before .before .args .out .now) (slice-relend-prefix-write (c .before)))
+
+write-requires : tie.Need-write-requires
+write-requires c κs = search needs
+
+enum-known-measured : tie.Need-enum-known-measured
+enum-known-measured c = search needs
+
+enum-told : tie.Need-enum-told
+enum-told c = search needs
+
+same-length : tie.Need-same-length
+same-length c = search needs
+
+returns-2 : tie.Need-returns-2
+returns-2 c = ended.unfit-roomed (c .before .before .before .before .before .before .before .before .before .before .before .before .args .source .now) (c .before .before .before .before .before .before .before .before .before .before .before .before .args .edit) (c .before .before .before .before .before .before .before .before .before .before .before .before .args .key .now) (c .before .before .before .before .before .before .before .before .before .before .before .before .args .value .now) (edits.unfit-of (c .before .before .before .before .write .ensures) (c .enum-told .given .1))
+
+has-room-requires : tie.Need-has-room-requires
+has-room-requires c κs = search needs
+
+same-length-2 : tie.Need-same-length-2
+same-length-2 c = search needs
+
+returns-3 : tie.Need-returns-3
+returns-3 c = ended.measured-roomed (c .before .before .before .before .before .before .before .before .before .before .before .before .before .before .args .source .now) (c .before .before .before .before .before .before .before .before .before .before .before .before .before .before .args .edit) (c .before .before .before .before .before .before .before .before .before .before .before .before .before .before .args .key .now) (c .before .before .before .before .before .before .before .before .before .before .before .before .before .before .args .value .now) (c .before .before .before .before .before .before .before .before .before .before .before .before .before .before .args .out .now) (edits.written-of (c .before .before .before .before .before .before .write .ensures) (c .before .before .measured .given .1) .text) (c .has-room .ensures)
+
+pub room-for-spec : {M : Type 1} → statement M
+room-for-spec =
+    tie.close
+    (tie.spec
+    is-short-requires
+    returns
+    slice-relend-prefix-write
+    slice-aggregate-write
+    write-requires
+    enum-known-measured
+    enum-told
+    same-length
+    returns-2
+    has-room-requires
+    same-length-2
+    returns-3)
