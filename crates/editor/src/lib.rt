@@ -41,7 +41,7 @@ fn has_room(room: usize, length: usize) -> bool
 fn refuse(table: &mut [u64]) -> Writing
     ensures { λ r. ⌜ Refuses (now (table .entry)) (now (table .exit)) r ⌝ }
 {
-    reader::clear(table);
+    tables::clear(table);
     Writing::Refused { code: 14, at: 0 }
 }
 

@@ -48,7 +48,7 @@ pub fn locate(
     };
     let placing = place(source, table, nodes, array_node, pair_index, key, value);
     let Placing::At(_) = placing else {
-        reader::clear(table);
+        tables::clear(table);
         return placing;
     };
     placing

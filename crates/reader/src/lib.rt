@@ -4,7 +4,6 @@ use crate::cursor::Step;
 ghost use mathlib.Core.Path.{_≡_};
 ghost use Prim.Native.Nat.{_*_, _≤_};
 ghost use lib.ListN.{length};
-ghost use Rattle.format.specs.Reading.{cleared};
 ghost use Rattle.format.specs.Table.{width};
 ghost use Rattle.reader.specs.Promise.{Reads};
 ghost use Rattle.reader.specs.Steps.{Whole};
@@ -57,17 +56,6 @@ fn read_whole(source: &[u8], table: &mut [u64], capacity: usize) -> Step
     step
 }
 
-// Makes every word of a table zero, as a refusal does.
-pub fn clear(table: &mut [u64])
-    ensures { λ _. ⌜ now (table .exit) ≡ cleared (now (table .entry)) ⌝ }
-{
-    let mut i = 0;
-    while i < table.len() {
-        table[i] = 0;
-        i += 1;
-    }
-}
-
 // Reads a plan into the table; a refusal makes every word of it zero.
 pub fn read(source: &[u8], table: &mut [u64]) -> Reading
     ensures { λ r. ⌜ Reads (now (source .entry)) (now (table .entry)) (now (table .exit)) r ⌝ }
@@ -76,7 +64,7 @@ pub fn read(source: &[u8], table: &mut [u64]) -> Reading
     let step = read_whole(source, table, capacity);
     match step {
         Step::Refused(code, at) => {
-            clear(table);
+            tables::clear(table);
             Reading::Refused { code, at }
         }
         Step::Done(end) => Reading::Accepted {

@@ -1,4 +1,4 @@
--- `reader::clear` meets its contract. Assumes nothing.
+-- `tables::clear` meets its contract. Assumes nothing.
 use borrow.Author.Needs.{needs}
 use Prim.Native.Nat.{ℕ, _+_, _-_, _≤_}
 use native.Mathlib.Omega.{arith}
@@ -6,8 +6,8 @@ use mathlib.Core.Path.{_≡_, ap, refl, _∙_}
 use mathlib.Core.List.{List, _++_, append-nil}
 use lib.ListN.{length, drop, set, length-set, replicate, drop-of-length-le}
 use borrow.Author.Fill.{fill-none, fill-more}
-use Rattle.reader.proofs.clear.Statement.{statement}
-use Rattle.reader.proofs.clear.Tie as tie
+use Rattle.tables.proofs.clear.Statement.{statement}
+use Rattle.tables.proofs.clear.Tie as tie
 
 abbrev Inv-loop : tie.InvT-loop
 Inv-loop table₀ i₀ table i = (i ≤ length table₀) × (table ≡ replicate i 0 ++ drop i table₀) × (length table ≡ length table₀)
