@@ -21,7 +21,7 @@ use Rattle.format.proofs.Inversion.{read-ok}
 use Rattle.format.proofs.Results.{after-length}
 use Rattle.format.specs.Writing.{fitsIn, withRoom, canonicalBytes}
 use Rattle.editor.specs.Promise.{answerOf, Writes}
-use Rattle.editor.specs.Ends.{Refuses, Settles, Short, Roomed, Sound}
+use Rattle.editor.specs.Ends.{Refuses, Settles, Short, Spared, shrinks, short, Roomed, Sound}
 use Rattle.tokens.specs.Tokens.{Token, tokens, writeTokens}
 use Rattle.tokens.specs.Between.{Stretch}
 use Rattle.tokens.proofs.TokenLaws.{tokens-write, tokens-canonical, tokens-fit}
@@ -33,7 +33,7 @@ use Rattle.rewriting.specs.Rewriting.{changedText}
 use Rattle.rewriting.specs.Edited.{canonicalText, editedText, writable}
 use Rattle.rewriting.specs.declared.inserted.Spot.{Spot}
 use Rattle.rewriting.proofs.Editable.{Kept, by-place, edited-most}
-use Rattle.rewriting.proofs.Measures.{texts-inside}
+use Rattle.rewriting.proofs.Measures.{texts-inside, canonical-text-most}
 use Rattle.placing.specs.Locating.{Located}
 use Rattle.editor.specs.declared.Writing.{Writing}
 use Rattle.editor.proofs.Canonicalizing.{by-value}
@@ -114,14 +114,28 @@ module _ {text : Answer (List ℕ)} (source before out : List ℕ) where
 
 -- ---- an edit
 
-pub short : (room source key value : ℕ) → sourceLimit ≤ room → source ≤ 10000 → key ≤ 2000 → leb value 2000 ≡ true → Short room source key value
-short room source key value h i j e = record { enough = h; low = omega (arith, i, j, leb→le value 2000 (T-of e)) }
+pub is-short : (room source key value : ℕ) → sourceLimit ≤ room → source ≤ 10000 → key ≤ 2000 → leb value 2000 ≡ true → Short room source key value
+is-short room source key value h i j e = record { enough = h; low = omega (arith, i, j, leb→le value 2000 (T-of e)) }
 
-pub short-room : {room : ℕ} (source : List ℕ) (e : Edit) (key value : List ℕ) → Short room (length source) (length key) (length value) → writable (length source) e (length key) (length value) ≡ true → true ≡ fitsIn room (length (editedText source e key value))
+short-room : {room : ℕ} (source : List ℕ) (e : Edit) (key value : List ℕ) → Short room (length source) (length key) (length value) → writable (length source) e (length key) (length value) ≡ true → true ≡ fitsIn room (length (editedText source e key value))
 short-room {room} source e key value h f =
     let n : ℕ = length (editedText source e key value) in
     let m : n ≤ sourceLimit = omega (arith, edited-most source e key value f, h .low) in
     sym (rw (le-leb n room (omega (arith, m, h .enough)), le-leb n sourceLimit m))
+
+pub canonical-spared : (room source key value : ℕ) (e : Edit) → e ≡ Edit.Canonical → fitsIn room source ≡ true → Spared room e source key value
+canonical-spared room source key value e c f = subst (λ (x : Edit). Spared room x source key value) (sym c) (shrinks f)
+
+shrinks-room : (room : ℕ) (source : List ℕ) → fitsIn room (length source) ≡ true → true ≡ fitsIn room (length (canonicalText source))
+shrinks-room room source h =
+    let n : ℕ = length (canonicalText source) in
+    let i : length source ≤ room = leb→le (length source) room (and-left (leb (length source) room) (leb (length source) sourceLimit) (T-of h)) in
+    let j : length source ≤ sourceLimit = leb→le (length source) sourceLimit (and-right (leb (length source) room) (leb (length source) sourceLimit) (T-of h)) in
+    sym (rw (le-leb n room (omega (arith, canonical-text-most source, i)), le-leb n sourceLimit (omega (arith, canonical-text-most source, j))))
+
+pub spared-room : {room : ℕ} (source : List ℕ) (e : Edit) (key value : List ℕ) → Spared room e (length source) (length key) (length value) → writable (length source) e (length key) (length value) ≡ true → true ≡ fitsIn room (length (editedText source e key value))
+spared-room {room} source Edit.Canonical key value (shrinks h) f = shrinks-room room source h
+spared-room source e key value (short h) f = short-room source e key value h f
 
 module _ (source : List ℕ) (e : Edit) (key value : List ℕ) where
   -- what is not edited at all was not measured

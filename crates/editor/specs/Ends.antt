@@ -28,6 +28,11 @@ pub record Short (room source key value : ℕ) : Type 0 where
   pub enough : sourceLimit ≤ room
   pub low : 6 * source + key + value + 9 ≤ sourceLimit
 
+-- an edit that need not be measured: a canonical text is never longer than its source
+pub data Spared (room : ℕ) : Edit → (source key value : ℕ) → Type 0 where
+  shrinks : {source key value : ℕ} → fitsIn room source ≡ true → Spared room Edit.Canonical source key value
+  short : {e : Edit} {source key value : ℕ} → Short room source key value → Spared room e source key value
+
 -- whether there is room, of an edit that is written at all; the output is as it was
 pub record Roomed (s : List ℕ) (e : Edit) (key value out out′ : List ℕ) (r : Bool) : Type 0 where
   pub same : out′ ≡ out

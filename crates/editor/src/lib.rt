@@ -11,7 +11,7 @@ ghost use lib.ListN.{length};
 ghost use Rattle.format.specs.Reading.{capacityOf};
 ghost use Rattle.format.specs.Writing.{fitsIn, canonicalBytes, insertBytes};
 ghost use Rattle.editor.specs.Promise.{Writes};
-ghost use Rattle.editor.specs.Ends.{Refuses, Settles, Short, Roomed, Finishes};
+ghost use Rattle.editor.specs.Ends.{Refuses, Settles, Short, Spared, Roomed, Finishes};
 
 // "bytes to write exceed the output's length or 65,536" is refused.
 const SOURCE_LIMIT: usize = 65536;
@@ -71,12 +71,22 @@ fn is_short(room: usize, source: usize, key: usize, value: usize) -> bool
     value <= SHORT_TEXT
 }
 
+// Whether an edit of texts of these lengths need not be measured: a canonical text is never longer than its source.
+fn is_spared(room: usize, edit: Edit, source: usize, key: usize, value: usize) -> bool
+    ensures { λ r. ⌜ (r ≡ true → Spared room edit source key value) ⌝ }
+{
+    match edit {
+        Edit::Canonical => has_room(room, source),
+        Edit::Insert(_) => is_short(room, source, key, value),
+    }
+}
+
 // Whether there is room for the edited plan. Written where there is none for any of it, a longer one is only measured.
 fn room_for(source: &[u8], edit: Edit, key: &[u8], value: &[u8], out: &mut [u8]) -> bool
     ensures { λ r. ⌜ Roomed (now (source .entry)) edit (now (key .entry)) (now (value .entry)) (now (out .entry)) (now (out .exit)) r ⌝ }
 {
     let room = out.len();
-    if is_short(room, source.len(), key.len(), value.len()) {
+    if is_spared(room, edit, source.len(), key.len(), value.len()) {
         return true;
     }
     let measured = write(source, edit, key, value, &mut out[..0]);

@@ -4,7 +4,10 @@ use native.Mathlib.Omega.{arith}
 use mathlib.Core.Path.{_≡_, refl, sym, ap, _∙_, subst}
 use mathlib.Core.Bool.{Bool, true, false, _||_}
 use mathlib.Core.List.{List, [], _∷_, _++_}
-use borrow.Author.Tests.{ne-eqb}
+use lib.Dec.{eqb}
+use lib.ListN.{length}
+use borrow.Author.Tests.{eqb-true, ltb-true, eq-eqb, ne-eqb}
+use Rattle.decimal.proofs.Decide.{T-of, T-true, and-left, and-right}
 use Rattle.format.specs.Kind.{Kind, tag}
 use Rattle.format.specs.Syntax.{Quoted, intKey, stringKey, Key}
 use Rattle.format.specs.Keys.{integer, sameKey, hasKey}
@@ -14,9 +17,13 @@ use Rattle.format.proofs.Words.{same-word}
 use Rattle.keys.specs.declared.KeyWords.{KeyWords}
 use Rattle.keys.specs.KeyWords.{sameWords, Held}
 use Rattle.keys.proofs.SameWords.{words-same}
-use Rattle.reader.specs.declared.seen.Highest.{Highest}
+use Rattle.marks.specs.Hash.{hashWords, hashKey}
+use Rattle.marks.specs.Marks.{marked, Entered, Grows, AllMarked}
+use Rattle.marks.proofs.Hashing.{hash-held}
+use Rattle.marks.proofs.Marking.{grows-none, grows-on, entered-grows, entered-marked, all-grow, all-snoc, all-none, new-key}
+use Rattle.reader.specs.declared.seen.Seen.{Seen}
 use Rattle.reader.specs.Nodes.{wordAt}
-use Rattle.reader.specs.KeysSeen.{rank, keyWords, Chain, none, pair, Walk, Reaches, KeyUnder, Under, Raised}
+use Rattle.reader.specs.KeysSeen.{rank, keyWords, Chain, none, pair, Walk, KeyUnder, Under, Known, isMarked, above, rises, next, MarkedAll, Tested}
 
 -- ---- pairs in the table
 
@@ -89,62 +96,178 @@ module _ {s t : List ℕ} {first n : ℕ} {w : KeyWords} where
   pub left-end : {i : ℕ} → Left s t first n w i → n ≤ i → (k : Key) (ks : List Key) → Held s k w → Chain s t first n ks → false ≡ hasKey k ks
   left-end {i} l h k ks g c = let x = l .left k ks g c in sym (x .same ∙ chain-end k (x .chain) h)
 
+-- ---- marking them
+
+-- what is left to mark
+record Unmarked (s t m : List ℕ) (first i n : ℕ) (all : List Key) : Type 0 where
+  keys : List Key
+  chain : Chain s t i n keys
+  rest : (m′ : List ℕ) → Grows m m′ → AllMarked m′ first keys → AllMarked m′ first all
+
+pub record Marking (s t m₀ m : List ℕ) (first n i : ℕ) : Type 0 where
+  pub walk : Walk s t i n
+  pub grows : Grows m₀ m
+  pub long : length m ≡ length m₀
+  left : (ks : List Key) → Chain s t first n ks → Unmarked s t m first i n ks
+
+none-left : {s t : List ℕ} {i n : ℕ} {ks : List Key} (m : List ℕ) (first : ℕ) → Chain s t i n ks → n ≤ i → AllMarked m first ks
+none-left m first none h = tt
+none-left m first (pair p e o q) h = let z = chain-le q in absurd (omega arith)
+
+module _ {s t m₀ : List ℕ} {first n : ℕ} where
+  pub marking-none : Walk s t first n → Marking s t m₀ m₀ first n first
+  marking-none a = record { walk = a; grows = grows-none m₀; long = refl; left = λ ks c. record { keys = ks; chain = c; rest = λ m′ g a. a } }
+
+  module _ {m : List ℕ} {i : ℕ} (l : Marking s t m₀ m first n i) where
+    module _ (lt : i < n) where
+      pub marking-on : i + 1 < wordAt t i (width + 5)
+      marking-on = stepped (l .walk .chain) lt .on
+
+      pub marking-in : wordAt t i (width + 5) ≤ n
+      marking-in = chain-le (stepped (l .walk .chain) lt .chain)
+
+      pub marking-more : (m₁ : List ℕ) (hash : ℕ) (r : Bool) (w : KeyWords) → w ≡ keyWords t i → hash ≡ hashWords s first w → Entered m m₁ hash r → length m₁ ≡ length m
+          → Marking s t m₀ m₁ first n (wordAt t i (width + 5))
+      marking-more m₁ hash r w e q d o =
+          record {
+            walk = (let p = stepped (l .walk .chain) lt in record { keys = p .rest; chain = p .chain });
+            grows = grows-on (l .grows) (entered-grows d);
+            long = o ∙ l .long;
+            left = λ ks c.
+                let x = l .left ks c in
+                let p = stepped (x .chain) lt in
+                record {
+                  keys = p .rest;
+                  chain = p .chain;
+                  rest = λ m′ g a. x .rest m′ (grows-on (entered-grows d) g) (subst (AllMarked m′ first) (sym (p .is)) (g .keeps (hashKey first (p .key)) (own (p .key) (p .held)), a));
+                };
+          }
+        where
+          own : (k : Key) → Held s k (keyWords t i) → marked m₁ (hashKey first k) ≡ true
+          own k h = ap (marked m₁) (sym (q ∙ ap (hashWords s first) e ∙ hash-held s first (keyWords t i) k h)) ∙ entered-marked d
+
+    pub marking-end : n ≤ i → (h : Seen) → MarkedAll s t m₀ m first n h
+    marking-end le h = record { grows = l .grows; all = λ ks c u. let x = l .left ks c in x .rest m (grows-none m) (none-left m first (x .chain) le) }
+
+pub marked-before : (s t m : List ℕ) (first n : ℕ) (h : Seen) → isMarked h ≡ true → MarkedAll s t m m first n h
+marked-before s t m first n h e = record { grows = grows-none m; all = λ ks c u. go h e ks u }
+  where
+    go : (h : Seen) → isMarked h ≡ true → (ks : List Key) → Known h m first ks → AllMarked m first ks
+    go Seen.Nothing e ks u = absurd (let z : _≡_ {A = ℕ} 0 1 = cc in omega arith)
+    go (Seen.Upto top) e ks u = absurd (let z : _≡_ {A = ℕ} 0 1 = cc in omega arith)
+    go Seen.Marked e ks u = u
+
 -- ---- integers above all earlier ones
-
--- a rank that the highest does not reach
-abbrev Above : Highest → ℕ → Type 0
-Above Highest.Nothing r = Unit {0}
-Above (Highest.At top) r = top < r
-
-pub above-nothing : (h : Highest) (r : ℕ) → h ≡ Highest.Nothing → Above h r
-above-nothing h r e = rw e tt
-
-pub above-top : (h : Highest) (top n r : ℕ) → h ≡ Highest.At top → n ≡ r → top < n → Above h r
-above-top h top n r e q l = rw e (omega arith)
-
-not-reached : (h : Highest) (r : ℕ) → Above h r → Reaches h r → ⊥
-not-reached Highest.Nothing r a b = b
-not-reached (Highest.At top) r a b = omega arith
 
 int-tag : {s : List ℕ} {q : Quoted} {w : KeyWords} → Held s (stringKey q) w → w .tag ≡ tag Kind.int → ⊥
 int-tag h e = let q = h .is in omega arith
 
-new-key : (s : List ℕ) (k j : Key) (w : KeyWords) (high : Highest) → Held s k w → w .tag ≡ tag Kind.int → Above high (rank (w .content)) → KeyFits j → KeyUnder high j → sameKey k j ≡ false
-new-key s (stringKey q) j w high h e a f u = absurd (int-tag h e)
-new-key s (intKey x) (stringKey q) w high h e a f u = refl
-new-key s (intKey x) (intKey y) w high h e a f u =
+higher-key : (s : List ℕ) (k j : Key) (w : KeyWords) (top : ℕ) → Held s k w → w .tag ≡ tag Kind.int → top < rank (w .content) → KeyFits j → KeyUnder top j → sameKey k j ≡ false
+higher-key s (stringKey q) j w top h e a f u = absurd (int-tag h e)
+higher-key s (intKey x) (stringKey q) w top h e a f u = refl
+higher-key s (intKey x) (intKey y) w top h e a f u =
     same-word x y (h .fits) f
-    ∙ ne-eqb (word (integer x)) (word (integer y)) (λ q. not-reached high (rank (w .content)) a (subst (Reaches high) (ap rank (sym q ∙ h .says)) u))
+    ∙ ne-eqb (word (integer x)) (word (integer y)) (λ q. omega (arith, a, u, ap rank (sym q ∙ h .says)))
 
-pub new-keys : {s t : List ℕ} {i n : ℕ} {ks : List Key} (k : Key) (w : KeyWords) (high : Highest) → Held s k w → w .tag ≡ tag Kind.int → Above high (rank (w .content)) → Chain s t i n ks → Under high ks → false ≡ hasKey k ks
-new-keys k w high h e a none u = refl
-new-keys {s} k w high h e a (pair {k = j} {ks = ks} g b o c) u = rw (new-key s k j w high h e a (g .fits) (u .0)) (new-keys k w high h e a c (u .1))
+higher-keys : {s t : List ℕ} {i n : ℕ} {ks : List Key} (k : Key) (w : KeyWords) (top : ℕ) → Held s k w → w .tag ≡ tag Kind.int → top < rank (w .content) → Chain s t i n ks → Under top ks → false ≡ hasKey k ks
+higher-keys k w top h e a none u = refl
+higher-keys {s} k w top h e a (pair {k = j} {ks = ks} g b o c) u = rw (higher-key s k j w top h e a (g .fits) (u .0)) (higher-keys k w top h e a c (u .1))
 
-under-more : (h r : Highest) (ks : List Key) → ((n : ℕ) → Reaches h n → Reaches r n) → Under h ks → Under r ks
-under-more h r [] f u = tt
-under-more h r (intKey x ∷ ks) f u = (f (rank (word (integer x))) (u .0), under-more h r ks f (u .1))
-under-more h r (stringKey q ∷ ks) f u = (tt, under-more h r ks f (u .1))
+under-more : (top r : ℕ) (ks : List Key) → top ≤ r → Under top ks → Under r ks
+under-more top r [] l u = tt
+under-more top r (intKey x ∷ ks) l u = (omega (arith, u .0), under-more top r ks l (u .1))
+under-more top r (stringKey q ∷ ks) l u = (tt, under-more top r ks l (u .1))
 
-under-key : (s : List ℕ) (h r : Highest) (k : Key) (w : KeyWords) → Raised h w r → Held s k w → KeyUnder r k
-under-key s h r (intKey x) w a g = subst (Reaches r) (ap rank (sym (g .says))) (a .covers (g .is))
-under-key s h r (stringKey q) w a g = tt
+under-key : (s : List ℕ) (k : Key) (w : KeyWords) → Held s k w → KeyUnder (rank (w .content)) k
+under-key s (intKey x) w g = omega (arith, ap rank (g .says))
+under-key s (stringKey q) w g = tt
 
-under-snoc : (r : Highest) (ks : List Key) (k : Key) → Under r ks → KeyUnder r k → Under r (ks ++ (k ∷ []))
+under-snoc : (r : ℕ) (ks : List Key) (k : Key) → Under r ks → KeyUnder r k → Under r (ks ++ (k ∷ []))
 under-snoc r [] k u v = (v, tt)
 under-snoc r (j ∷ ks) k u v = (u .0, under-snoc r ks k (u .1) v)
 
-pub under-raised : (s : List ℕ) (h r : Highest) (ks : List Key) (k : Key) (w : KeyWords) → Raised h w r → Held s k w → Under h ks → Under r (ks ++ (k ∷ []))
-under-raised s h r ks k w a g u = under-snoc r ks k (under-more h r ks (a .over) u) (under-key s h r k w a g)
+-- ---- the test
 
--- what `raised` answers
-pub raised-not : (h : Highest) (w : KeyWords) → (w .tag ≡ tag Kind.int → ⊥) → Raised h w h
-raised-not h w n = record { over = λ k r. r; covers = λ e. absurd (n e) }
+next-rising : (h : Seen) (w : KeyWords) → rises h w ≡ true → next h w ≡ Seen.Upto (rank (w .content))
+unfolding next
+next-rising h w e = rw (next, e)
 
-pub raised-first : (h : Highest) (w : KeyWords) (n : ℕ) → h ≡ Highest.Nothing → n ≡ rank (w .content) → Raised h w (Highest.At n)
-raised-first h w n q e = rw q (record { over = λ k r. absurd r; covers = λ z. omega arith })
+next-marked : (h : Seen) (w : KeyWords) → rises h w ≡ false → next h w ≡ Seen.Marked
+unfolding next
+next-marked h w e = rw (next, e)
 
-pub raised-below : (h : Highest) (w : KeyWords) (top n : ℕ) → h ≡ Highest.At top → n ≡ rank (w .content) → n ≤ top → Raised h w (Highest.At top)
-raised-below h w top n q e l = rw q (record { over = λ k r. r; covers = λ z. omega arith })
+pub next-is : (h : Seen) (w : KeyWords) (b : Bool) (n : ℕ) → b ≡ rises h w → n ≡ rank (w .content) → b ≡ true → Seen.Upto n ≡ next h w
+next-is h w b n e q z = ap Seen.Upto q ∙ sym (next-rising h w (sym e ∙ z))
 
-pub raised-above : (h : Highest) (w : KeyWords) (top n : ℕ) → h ≡ Highest.At top → n ≡ rank (w .content) → top < n → Raised h w (Highest.At n)
-raised-above h w top n q e l = rw q (record { over = λ k r. omega arith; covers = λ z. omega arith })
+pub next-other : (h : Seen) (w : KeyWords) (b : Bool) → b ≡ rises h w → b ≡ false → Seen.Marked ≡ next h w
+next-other h w b e z = sym (next-marked h w (sym e ∙ z))
+
+-- what `rises` answers
+pub rises-not : (h : Seen) (w : KeyWords) → (w .tag ≡ tag Kind.int → ⊥) → false ≡ rises h w
+unfolding rises
+rises-not h w n = sym (rw (rises, ne-eqb (w .tag) 105 n))
+
+pub rises-int : (h g : Seen) (w : KeyWords) (b : Bool) (n : ℕ) → w .tag ≡ tag Kind.int → h ≡ g → n ≡ rank (w .content) → b ≡ above g n → b ≡ rises h w
+unfolding rises
+rises-int h g w b n e q z a = a ∙ ap (above g) z ∙ sym (rw (rises, eq-eqb (w .tag) 105 e, q))
+
+module _ (s t m : List ℕ) (first n : ℕ) (w : KeyWords) (h : Seen) (b : Bool) (is : b ≡ rises h w) where
+  module _ (up : b ≡ true) where
+    tag-int : w .tag ≡ tag Kind.int
+    unfolding rises
+    tag-int = eqb-true (w .tag) 105 (T-true (eqb (w .tag) 105) (and-left (eqb (w .tag) 105) (above h (rank (w .content))) (T-of (sym is ∙ up))))
+
+    higher : above h (rank (w .content)) ≡ true
+    unfolding rises
+    higher = T-true (above h (rank (w .content))) (and-right (eqb (w .tag) 105) (above h (rank (w .content))) (T-of (sym is ∙ up)))
+
+    pub tested-rising : Tested s t m m first n w h false
+    tested-rising =
+        record {
+          answer = λ k ks g c u. new h higher k ks g c u;
+          known = λ k ks g c u. subst (λ (z : Seen). Known z m first (ks ++ (k ∷ []))) (sym (next-rising h w (sym is ∙ up))) (under-snoc (rank (w .content)) ks k (before h higher ks u) (under-key s k w g));
+          grows = grows-none m;
+        }
+      where
+        new : (h : Seen) → above h (rank (w .content)) ≡ true → (k : Key) (ks : List Key) → Held s k w → Chain s t first n ks → Known h m first ks → false ≡ hasKey k ks
+        new Seen.Nothing a k ks g c u = rw u
+        new (Seen.Upto top) a k ks g c u = higher-keys k w top g tag-int (ltb-true top (rank (w .content)) a) c u
+        new Seen.Marked a k ks g c u = absurd (let z : _≡_ {A = ℕ} 0 1 = cc in omega arith)
+
+        before : (h : Seen) → above h (rank (w .content)) ≡ true → (ks : List Key) → Known h m first ks → Under (rank (w .content)) ks
+        before Seen.Nothing a ks u = rw u tt
+        before (Seen.Upto top) a ks u = under-more top (rank (w .content)) ks (let l = ltb-true top (rank (w .content)) a in omega arith) u
+        before Seen.Marked a ks u = absurd (let z : _≡_ {A = ℕ} 0 1 = cc in omega arith)
+
+  pub tested-bare : b ≡ false → length m ≡ 0 → (f : Bool) → ((k : Key) (ks : List Key) → Held s k w → Chain s t first n ks → f ≡ hasKey k ks) → Tested s t m m first n w h f
+  tested-bare down e f o =
+      record {
+        answer = λ k ks g c u. o k ks g c;
+        known = λ k ks g c u. subst (λ (z : Seen). Known z m first (ks ++ (k ∷ []))) (sym (next-marked h w (sym is ∙ down))) (all-none m first (ks ++ (k ∷ [])) e);
+        grows = grows-none m;
+      }
+
+  module _ (down : b ≡ false) (m₁ : List ℕ) (a : MarkedAll s t m m₁ first n h) (m₂ : List ℕ) (hash : ℕ) (q : hash ≡ hashWords s first w) (r : Bool) (d : Entered m₁ m₂ hash r) where
+    hash-is : (k : Key) → Held s k w → hash ≡ hashKey first k
+    hash-is k g = q ∙ hash-held s first w k g
+
+    listed : (k : Key) (ks : List Key) → Held s k w → Chain s t first n ks → Known h m first ks → Known (next h w) m₂ first (ks ++ (k ∷ []))
+    listed k ks g c u =
+        subst (λ (z : Seen). Known z m₂ first (ks ++ (k ∷ []))) (sym (next-marked h w (sym is ∙ down)))
+        (all-snoc m₂ first ks k (all-grow m₁ m₂ first ks (entered-grows d) (a .all ks c u)) (ap (marked m₂) (sym (hash-is k g)) ∙ entered-marked d))
+
+    pub tested-new : r ≡ false → Tested s t m m₂ first n w h false
+    tested-new e =
+        record {
+          answer = λ k ks g c u. sym (new-key m₁ first k ks (ap (marked m₁) (sym (hash-is k g)) ∙ sym (d .answer) ∙ e) (a .all ks c u));
+          known = listed;
+          grows = grows-on (a .grows) (entered-grows d);
+        }
+
+    pub tested-walk : (f : Bool) → ((k : Key) (ks : List Key) → Held s k w → Chain s t first n ks → f ≡ hasKey k ks) → Tested s t m m₂ first n w h f
+    tested-walk f o = record { answer = λ k ks g c u. o k ks g c; known = listed; grows = grows-on (a .grows) (entered-grows d) }
+
+pub known-grows : (h : Seen) (m m′ : List ℕ) (first : ℕ) (ks : List Key) → Grows m m′ → Known h m first ks → Known h m′ first ks
+known-grows Seen.Nothing m m′ first ks g u = u
+known-grows (Seen.Upto top) m m′ first ks g u = u
+known-grows Seen.Marked m m′ first ks g u = all-grow m m′ first ks g u

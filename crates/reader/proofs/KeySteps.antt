@@ -4,9 +4,9 @@ use native.Mathlib.Nat.{add-zero}
 use native.Mathlib.Numerals.{add-one}
 use native.Mathlib.Omega.{arith}
 use mathlib.Core.Path.{_≡_, refl, sym, ap, _∙_, subst}
-use mathlib.Core.Bool.{true, false, not}
+use mathlib.Core.Bool.{Bool, true, false, not}
 use mathlib.Core.Logic.{⊎-elim}
-use mathlib.Core.List.{List, [], _∷_}
+use mathlib.Core.List.{List, [], _∷_, _++_}
 use lib.Dec.{lit<}
 use lib.ListN.{length, getD, take, drop, length-drop}
 use lib.Seq.{sets, drop-cons}
@@ -31,8 +31,10 @@ use Rattle.keys.specs.declared.KeyWords.{KeyWords}
 use Rattle.keys.specs.KeyWords.{keyKind, Says, Held}
 use Rattle.reader.specs.Texts.{kindFor, isArrayTag, keyTold}
 use Rattle.reader.specs.Nodes.{nodeOf, wordAt, Placed}
-use Rattle.reader.specs.KeysSeen.{keyWords}
-use Rattle.reader.specs.Steps.{Fit, GoodKey, MeetsKey, keyAt, refusalOf}
+use Rattle.marks.specs.Marks.{Grows}
+use Rattle.reader.specs.declared.seen.Seen.{Seen}
+use Rattle.reader.specs.KeysSeen.{keyWords, Known, next, Tested}
+use Rattle.reader.specs.Steps.{Fit, GoodKey, MeetsKey, Remembers, keyAt, refusalOf}
 use Rattle.reader.proofs.Tagged.{position-is, tag-end, tag-other, tag-is, key-kind-is, key-any, one-of}
 use Rattle.reader.proofs.Bodies.{key-told, key-of-int, key-of-string}
 use Rattle.reader.proofs.Stored.{run-word}
@@ -84,6 +86,37 @@ module _ (s : List ℕ) (at b : ℕ) (may : mayBeKey b ≡ true) (here : at < le
         says = says (f .what) at-key (f .tells);
         fits = keyText-ok (kindFor b) 0 (drop (at + 1) s) (f .what, drop (x .next) s) which (f .is 0) .fits;
       }
+
+-- ---- the words of a key that is placed
+
+placed-words : (t t′ : List ℕ) (c c′ : Cursor) (b : ℕ) (x : Text) → c .node * width + width ≤ length t → Placed t t′ c b x false c′ → keyWords t′ (c .node) ≡ record { tag = b; content = x .content; size = x .size }
+placed-words t t′ c c′ b x room p = of-words (wordAt t′ (c .node) 0) b (wordAt t′ (c .node) 2) (x .content) (wordAt t′ (c .node) 3) (x .size) (word-is 0 (lit< tt)) (word-is 2 (lit< tt)) (word-is 3 (lit< tt))
+  where
+    ws : List ℕ
+    ws = words (nodeOf b 0 (c .node + 1) x)
+
+    word-is : (j : ℕ) → j < length ws → wordAt t′ (c .node) j ≡ getD ws j 0
+    word-is j u = run-word t t′ ws (c .node) j (p .table) u room
+
+    of-words : (a₁ a₂ b₁ b₂ d₁ d₂ : ℕ) → a₁ ≡ a₂ → b₁ ≡ b₂ → d₁ ≡ d₂ → _≡_ {A = KeyWords} (record { tag = a₁; content = b₁; size = d₁ }) (record { tag = a₂; content = b₂; size = d₂ })
+    of-words a₁ a₂ b₁ b₂ d₁ d₂ u v w = rw (u, v, w)
+
+-- ---- what is known of the keys
+
+pub none-more : (s t t′ m m′ : List ℕ) (first node : ℕ) (seen : Seen) (r : Step) (code at : ℕ) → r ≡ Step.Refused code at → Grows m m′ → Remembers s t t′ m m′ first node seen r
+none-more s t t′ m m′ first node seen r code at e g = record { grows = g; known = λ c′ q. absurd (let z : _≡_ {A = ℕ} 0 1 = cc in omega arith) }
+
+pub one-more : (s t t′ m m′ : List ℕ) (first capacity : ℕ) (seen : Seen) (c c′ : Cursor) (b : ℕ) (x : Text) (r : Step) (found : Bool) → Fit s t capacity c → c .node < capacity
+    → Tested s t m m′ first (c .node) (record { tag = b; content = x .content; size = x .size }) seen found → Placed t t′ c b x false c′ → Remembers s t t′ m m′ first (c .node) seen r
+one-more s t t′ m m′ first capacity seen c c′ b x r found fit room d p =
+    record {
+      grows = d .grows;
+      known = λ c″ q k ks h l u.
+          subst (λ (w : KeyWords). Known (next seen w) m′ first (ks ++ (k ∷ []))) (sym same) (d .known k ks (subst (Held s k) same h) l u);
+    }
+  where
+    same : keyWords t′ (c .node) ≡ record { tag = b; content = x .content; size = x .size }
+    same = placed-words t t′ c c′ b x (omega (arith, fit .table)) p
 
 -- ---- the steps
 
@@ -149,17 +182,5 @@ module _ (s : List ℕ) (capacity container : ℕ) (c : Cursor) (earlier : List 
                 ordinal = add-zero (c .ordinal);
                 levels = refl;
                 table = p .table ∙ ap (λ (n : ℕ). sets t (c .node * width) (words (nodeOf b 0 n x))) (add-one (c .node)) ∙ ap (λ (n : Node). sets t (c .node * width) (words n)) (sym (key-node s (c .at) b may h q x f (c .node)));
-                held = subst (Held s (f .what)) (sym same) key-held;
+                held = subst (Held s (f .what)) (sym (placed-words t t′ c c′ b x (omega arith) p)) key-held;
               })
-            where
-              ws : List ℕ
-              ws = words (nodeOf b 0 (c .node + 1) x)
-
-              word-is : (j : ℕ) → j < length ws → wordAt t′ (c .node) j ≡ getD ws j 0
-              word-is j u = run-word t t′ ws (c .node) j (p .table) u (omega arith)
-
-              of-words : (a₁ a₂ b₁ b₂ d₁ d₂ : ℕ) → a₁ ≡ a₂ → b₁ ≡ b₂ → d₁ ≡ d₂ → _≡_ {A = KeyWords} (record { tag = a₁; content = b₁; size = d₁ }) (record { tag = a₂; content = b₂; size = d₂ })
-              of-words a₁ a₂ b₁ b₂ d₁ d₂ u v w = rw (u, v, w)
-
-              same : keyWords t′ (c .node) ≡ record { tag = b; content = x .content; size = x .size }
-              same = of-words (wordAt t′ (c .node) 0) b (wordAt t′ (c .node) 2) (x .content) (wordAt t′ (c .node) 3) (x .size) (word-is 0 (lit< tt)) (word-is 2 (lit< tt)) (word-is 3 (lit< tt))

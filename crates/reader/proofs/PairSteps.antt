@@ -21,14 +21,16 @@ use Rattle.format.proofs.Results.{flat-length}
 use Rattle.format.proofs.Rows.{tableIn-length}
 use Rattle.reader.specs.declared.cursor.Cursor.{Cursor}
 use Rattle.reader.specs.declared.cursor.Step.{Step}
-use Rattle.reader.specs.declared.seen.Highest.{Highest}
+use Rattle.marks.specs.Marks.{Grows}
+use Rattle.reader.specs.declared.seen.Seen.{Seen}
 use Rattle.keys.specs.declared.KeyWords.{KeyWords}
 use Rattle.keys.specs.KeyWords.{Held}
 use Rattle.reader.specs.Texts.{isArrayTag}
 use Rattle.reader.specs.Nodes.{wordAt}
-use Rattle.reader.specs.KeysSeen.{keyWords, Chain, none, pair, Walk, Raised}
-use Rattle.reader.specs.Steps.{Points, Takes, TakesIn, Fit, Kept, WroteIn, GoodValue, GoodPairs, GoodKey, MeetsPairs, Earlier, innerAt, valueAt, pairsAt, keyAt}
-use Rattle.reader.proofs.KeyLaws.{chain-le, under-raised}
+use Rattle.reader.specs.KeysSeen.{keyWords, Chain, none, pair, Walk, Known, next}
+use Rattle.reader.specs.Steps.{Points, Takes, TakesIn, Fit, Kept, WroteIn, GoodValue, GoodPairs, GoodKey, MeetsPairs, Earlier, Remembers, innerAt, valueAt, pairsAt, keyAt}
+use Rattle.marks.proofs.Marking.{grows-none, grows-on}
+use Rattle.reader.proofs.KeyLaws.{chain-le, known-grows}
 use Rattle.reader.proofs.Snoc.{snoc, onto, onto-none, onto-done, onto-refused, onto-snoc, nodes-snoc, ordinals-snoc, key-adds, write-adds, length-snoc, ordinals-le, flat-append, table-snoc, takes-snoc}
 use Rattle.reader.proofs.Stored.{run-kept, run-word, points-kept, points-skip}
 
@@ -60,11 +62,11 @@ chain-more {t = t} t′ k m same h e l (pair {i = i} {k = j} a b o c) =
 unfoldable restAt : (s : List ℕ) (capacity container levels more : ℕ) → List Key → Cursor → Answer (Values × List ℕ)
 restAt s capacity container levels more earlier c = readPairs (setting capacity s) (innerAt s capacity levels) (isArrayTag container) more earlier (c .ordinal) (c .node) (drop (c .at) s)
 
-pub record Run (s t₀ t : List ℕ) (capacity container count : ℕ) (c₀ c : Cursor) (more : ℕ) (highest : Highest) : Type 0 where
+pub record Run (s t₀ t m₀ m : List ℕ) (capacity container count : ℕ) (c₀ c : Cursor) (more : ℕ) (seen : Seen) : Type 0 where
   pub pairs : Values
   pub earlier : List Key
   all : pairsAt s capacity container count c₀ ≡ onto pairs (restAt s capacity container (c₀ .levels) more earlier c)
-  pub keys : Earlier s t (c₀ .node) (c .node) highest earlier
+  pub keys : Earlier s t m (c₀ .node) (c .node) seen earlier
   node : c .node ≡ c₀ .node + nodesIn pairs
   ordinal : c .ordinal ≡ c₀ .ordinal + ordinalsIn own pairs
   behind : c .at ≡ c₀ .at + length (writePairs pairs [])
@@ -73,15 +75,17 @@ pub record Run (s t₀ t : List ℕ) (capacity container count : ℕ) (c₀ c : 
   kept : Kept t₀ t (c₀ .node)
   wrote : WroteIn t₀ t c₀ c pairs
   pub long : length t ≡ length t₀
+  pub grown : Grows m₀ m
+  pub marks-long : length m ≡ length m₀
 
-pub run-start : (s t : List ℕ) (capacity container count : ℕ) (c : Cursor) → Fit s t capacity c → Run s t t capacity container count c c count Highest.Nothing
+pub run-start : (s t m : List ℕ) (capacity container count : ℕ) (c : Cursor) → Fit s t capacity c → Run s t t m m capacity container count c c count Seen.Nothing
 unfolding write pairsAt restAt
-run-start s t capacity container count c f =
+run-start s t m capacity container count c f =
     record {
       pairs = tree.none;
       earlier = [];
       all = sym (onto-none (restAt s capacity container (c .levels) count [] c));
-      keys = record { keys = []; chain = none; same = λ k. refl; under = tt };
+      keys = record { keys = []; chain = none; same = λ k. refl; known = refl };
       node = omega arith;
       ordinal = omega arith;
       behind = omega arith;
@@ -90,9 +94,11 @@ run-start s t capacity container count c f =
       kept = λ i h. refl;
       wrote = record { of = λ to p q. (refl, p) };
       long = refl;
+      grown = grows-none m;
+      marks-long = refl;
     }
 
-module _ {s t₀ t : List ℕ} {capacity container count : ℕ} {c₀ c : Cursor} {more : ℕ} {highest : Highest} (r : Run s t₀ t capacity container count c₀ c more highest) where
+module _ {s t₀ t m₀ m : List ℕ} {capacity container count : ℕ} {c₀ c : Cursor} {more : ℕ} {seen : Seen} (r : Run s t₀ t m₀ m capacity container count c₀ c more seen) where
   pub run-walk : Walk s t (c₀ .node) (c .node)
   run-walk = record { keys = r .keys .keys; chain = r .keys .chain }
 
@@ -158,27 +164,28 @@ module _ {s t₀ t : List ℕ} {capacity container count : ℕ} {c₀ c : Cursor
           let f = r .fit in
           omega (arith, ap length w, key-adds (k .key) (drop (mid .at) s), length-drop (c .at) s, length-drop (mid .at) s, k .inside, k .on)
 
-      module _ (t₂ : List ℕ) (next : Cursor) (g : GoodValue s t₁ t₂ capacity mid (valueAt s capacity mid) next) (l₁ : length t₁ ≡ length t) (l₂ : length t₂ ≡ length t₁)
-          (higher : Highest) (w : KeyWords) (of-key : w ≡ keyWords t₁ (c .node)) (a : Raised highest w higher) where
-        value-long : next .at ≡ mid .at + length (write (g .value) [])
+      module _ (t₂ : List ℕ) (after : Cursor) (g : GoodValue s t₁ t₂ capacity mid (valueAt s capacity mid) after) (l₁ : length t₁ ≡ length t) (l₂ : length t₂ ≡ length t₁)
+          (m₁ m₂ : List ℕ) (n₁ : length m₁ ≡ length m) (n₂ : length m₂ ≡ length m₁) (step : Step) (done : step ≡ Step.Done mid) (a : Remembers s t t₁ m m₁ (c₀ .node) (c .node) seen step) (b : Grows m₁ m₂)
+          (seen′ : Seen) (w : KeyWords) (of-key : w ≡ keyWords t₁ (c .node)) (e : seen′ ≡ next seen w) where
+        value-long : after .at ≡ mid .at + length (write (g .value) [])
         unfolding valueAt
         value-long =
-            let w = value-written (setting capacity s) (mid .levels) (mid .ordinal) (mid .node) (drop (mid .at) s) (g .value, drop (next .at) s) (g .is) in
-            omega (arith, ap length w, write-adds (g .value) (drop (next .at) s), length-drop (next .at) s, length-drop (mid .at) s, k .inside, g .inside, g .on)
+            let w = value-written (setting capacity s) (mid .levels) (mid .ordinal) (mid .node) (drop (mid .at) s) (g .value, drop (after .at) s) (g .is) in
+            omega (arith, ap length w, write-adds (g .value) (drop (after .at) s), length-drop (after .at) s, length-drop (mid .at) s, k .inside, g .inside, g .on)
 
         rest-good : restAt s capacity container (c₀ .levels) more (r .earlier) c
-            ≡ (restAt s capacity container (c₀ .levels) (more - 1) (k .key ∷ r .earlier) next >>= λ q. ok (tree.pair (k .key) (g .value) (q .0), q .1))
+            ≡ (restAt s capacity container (c₀ .levels) (more - 1) (k .key ∷ r .earlier) after >>= λ q. ok (tree.pair (k .key) (g .value) (q .0), q .1))
         unfolding restAt keyAt
         rest-good = go more some
           where
             go : (m : ℕ) → 0 < m
                 → readPairs (setting capacity s) (innerAt s capacity (c₀ .levels)) (isArrayTag container) m (r .earlier) (c .ordinal) (c .node) (drop (c .at) s)
-                ≡ (readPairs (setting capacity s) (innerAt s capacity (c₀ .levels)) (isArrayTag container) (m - 1) (k .key ∷ r .earlier) (next .ordinal) (next .node) (drop (next .at) s)
+                ≡ (readPairs (setting capacity s) (innerAt s capacity (c₀ .levels)) (isArrayTag container) (m - 1) (k .key ∷ r .earlier) (after .ordinal) (after .node) (drop (after .at) s)
                 >>= λ q. ok (tree.pair (k .key) (g .value) (q .0), q .1))
             go zero h = absurd (omega arith)
             go (suc m) h =
-                let x : c .ordinal + ordinals own (g .value) ≡ next .ordinal = omega (arith, g .ordinal, k .ordinal) in
-                let y : suc (c .node + nodes (g .value)) ≡ next .node = omega (arith, g .node, k .node) in
+                let x : c .ordinal + ordinals own (g .value) ≡ after .ordinal = omega (arith, g .ordinal, k .ordinal) in
+                let y : suc (c .node + nodes (g .value)) ≡ after .node = omega (arith, g .node, k .node) in
                 rw (k .is, value-is, g .is, x, y, sub-one (suc m))
 
         ordinal-none : (j : Key) (o i : ℕ) → getD (words (keyNode o i j)) 1 0 ≡ 0
@@ -193,23 +200,24 @@ module _ {s t₀ t : List ℕ} {capacity container count : ℕ} {c₀ c : Cursor
         same-below : Kept t t₂ (c .node)
         same-below i h = g .kept i (omega (arith, k .node)) ∙ run-kept t t₁ (words (keyNode (c .at) (c .node) (k .key))) (c .node) (k .table) i h
 
-        ends : wordAt t₂ (c .node) (width + 5) ≡ next .node
+        ends : wordAt t₂ (c .node) (width + 5) ≡ after .node
         ends = ap (λ (i : ℕ). getD t₂ i 0) (place (k .node)) ∙ g .end
           where
             place : mid .node ≡ c .node + 1 → c .node * width + 11 ≡ mid .node * width + 5
             place e = omega arith
 
-        listed : Earlier s t₂ (c₀ .node) (next .node) higher (k .key ∷ r .earlier)
+        listed : Earlier s t₂ m₂ (c₀ .node) (after .node) seen′ (k .key ∷ r .earlier)
         listed =
             record {
               keys = r .keys .keys ++ (k .key ∷ []);
-              chain = chain-more t₂ (k .key) (next .node) same-below (held-kept t₁ t₂ (k .key) (c .node) (λ j h. g .kept (c .node * width + j) (omega (arith, k .node))) (k .held)) ends (omega (arith, g .node, k .node, nodes-some (g .value))) (r .keys .chain);
+              chain = chain-more t₂ (k .key) (after .node) same-below (held-kept t₁ t₂ (k .key) (c .node) (λ j h. g .kept (c .node * width + j) (omega (arith, k .node))) (k .held)) ends (omega (arith, g .node, k .node, nodes-some (g .value))) (r .keys .chain);
               same = λ x. ap (λ (b : Bool). sameKey x (k .key) || b) (r .keys .same x) ∙ sym (has-snoc x (k .key) (r .keys .keys));
-              under = under-raised s highest higher (r .keys .keys) (k .key) (keyWords t₁ (c .node)) (subst (λ (x : KeyWords). Raised highest x higher) of-key a) (k .held) (r .keys .under);
+              known = subst (λ (z : Seen). Known z m₂ (c₀ .node) (r .keys .keys ++ (k .key ∷ []))) (sym (e ∙ ap (next seen) of-key))
+                  (known-grows (next seen (keyWords t₁ (c .node))) m₁ m₂ (c₀ .node) (r .keys .keys ++ (k .key ∷ [])) b (a .known mid done (k .key) (r .keys .keys) (k .held) (r .keys .chain) (r .keys .known)));
             }
 
         writes : (to : ℕ → ℕ) → Points to t₀ (c₀ .node) (c₀ .ordinal) → TakesIn to (c₀ .node) (suc (c₀ .ordinal)) (snoc (r .pairs) (k .key) (g .value))
-            → (t₂ ≡ sets t₀ (c₀ .node * width) (flat (tableIn to (c₀ .at) (c₀ .node) (suc (c₀ .ordinal)) (snoc (r .pairs) (k .key) (g .value))))) × Points to t₂ (next .node) (next .ordinal)
+            → (t₂ ≡ sets t₀ (c₀ .node * width) (flat (tableIn to (c₀ .at) (c₀ .node) (suc (c₀ .ordinal)) (snoc (r .pairs) (k .key) (g .value))))) × Points to t₂ (after .node) (after .ordinal)
         writes to p q =
             let q′ = takes-snoc to (r .pairs) (k .key) (g .value) (c₀ .node) (suc (c₀ .ordinal)) q in
             let w₀ = r .wrote .of to p (q′ .0) in
@@ -255,12 +263,12 @@ module _ {s t₀ t : List ℕ} {capacity container count : ℕ} {c₀ c : Cursor
                 ∙ ap (λ (n : ℕ). before to ++ (words (keyNode (c .at) (c .node) (k .key)) ++ flat (table to n (suc (c .node)) (suc (mid .ordinal)) (g .value)))) (sym key-long)
                 ∙ ap (λ (n : ℕ). before to ++ (words (keyNode (c .at) (c .node) (k .key)) ++ flat (table to (mid .at) n (suc (mid .ordinal)) (g .value)))) next-node)
 
-        pub run-more : Run s t₀ t₂ capacity container count c₀ next (more - 1) higher
+        pub run-more : Run s t₀ t₂ m₀ m₂ capacity container count c₀ after (more - 1) seen′
         run-more =
             record {
               pairs = snoc (r .pairs) (k .key) (g .value);
               earlier = k .key ∷ r .earlier;
-              all = r .all ∙ ap (onto (r .pairs)) rest-good ∙ onto-snoc (r .pairs) (k .key) (g .value) (restAt s capacity container (c₀ .levels) (more - 1) (k .key ∷ r .earlier) next);
+              all = r .all ∙ ap (onto (r .pairs)) rest-good ∙ onto-snoc (r .pairs) (k .key) (g .value) (restAt s capacity container (c₀ .levels) (more - 1) (k .key ∷ r .earlier) after);
               keys = listed;
               node = omega (arith, r .node, k .node, g .node, nodes-snoc (r .pairs) (k .key) (g .value));
               ordinal = omega (arith, r .ordinal, k .ordinal, g .ordinal, ordinals-snoc (r .pairs) (k .key) (g .value));
@@ -270,9 +278,11 @@ module _ {s t₀ t : List ℕ} {capacity container count : ℕ} {c₀ c : Cursor
               kept = λ i h. same-below i (omega (arith, r .node)) ∙ r .kept i h;
               wrote = record { of = writes };
               long = l₂ ∙ l₁ ∙ r .long;
+              grown = grows-on (r .grown) (grows-on (a .grows) b);
+              marks-long = n₂ ∙ n₁ ∙ r .marks-long;
             }
           where
-            fits : Fit s t capacity c → Fit s t₂ capacity next
+            fits : Fit s t capacity c → Fit s t₂ capacity after
             fits f = record { inside = g .inside; table = omega arith; node = g .fits; ordinal = omega (arith, g .ordinal, g .node, k .ordinal, k .node, ordinals-le (g .value)) }
 
 pub pairs-bad : (s t t′ : List ℕ) (capacity : ℕ) (c : Cursor) (o : Answer (Values × List ℕ)) (r : Step) (code at : ℕ) → r ≡ Step.Refused code at → o ≡ refused code at → MeetsPairs s t t′ capacity c o r

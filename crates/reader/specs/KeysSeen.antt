@@ -1,15 +1,18 @@
 -- The keys of a container's pairs, as the table has them.
 use mathlib.Core.Path.{_≡_}
-use mathlib.Core.List.{List, [], _∷_}
+use mathlib.Core.Bool.{Bool, true, false, _&&_}
+use mathlib.Core.List.{List, [], _∷_, _++_}
 use Prim.Native.Nat.{ℕ, _+_, _^_, _%_, _≤_, _<_}
+use lib.Dec.{eqb, ltb, leb}
 use Rattle.format.specs.Kind.{Kind, tag}
 use Rattle.format.specs.Syntax.{intKey, stringKey, Key}
-use Rattle.format.specs.Keys.{integer}
+use Rattle.format.specs.Keys.{integer, hasKey}
 use Rattle.format.specs.Table.{width, word}
 use Rattle.keys.specs.declared.KeyWords.{KeyWords}
 use Rattle.keys.specs.KeyWords.{Held}
 use Rattle.reader.specs.Nodes.{wordAt}
-use Rattle.reader.specs.declared.seen.Highest.{Highest}
+use Rattle.marks.specs.Marks.{Grows, AllMarked}
+use Rattle.reader.specs.declared.seen.Seen.{Seen}
 
 -- the place of an integer's pattern in the order of the integers
 abbrev pub rank : ℕ → ℕ
@@ -28,21 +31,47 @@ pub record Walk (s t : List ℕ) (first node : ℕ) : Type 0 where
   pub keys : List Key
   pub chain : Chain s t first node keys
 
--- the highest is not below the rank
-abbrev pub Reaches : Highest → ℕ → Type 0
-Reaches Highest.Nothing r = ⊥
-Reaches (Highest.At top) r = r ≤ top
+-- ---- what is known of earlier keys
 
-abbrev pub KeyUnder : Highest → Key → Type 0
-KeyUnder h (intKey x) = Reaches h (rank (word (integer x)))
-KeyUnder h (stringKey q) = Unit {0}
+-- the rank is not below any integer key's
+abbrev pub KeyUnder : (top : ℕ) → Key → Type 0
+KeyUnder top (intKey x) = rank (word (integer x)) ≤ top
+KeyUnder top (stringKey q) = Unit {0}
 
--- nor below any integer key's
-abbrev pub Under : Highest → List Key → Type 0
-Under h [] = Unit {0}
-Under h (k ∷ ks) = KeyUnder h k × Under h ks
+abbrev pub Under : (top : ℕ) → List Key → Type 0
+Under top [] = Unit {0}
+Under top (k ∷ ks) = KeyUnder top k × Under top ks
+
+abbrev pub Known : Seen → (marks : List ℕ) → (first : ℕ) → List Key → Type 0
+Known Seen.Nothing m first ks = ks ≡ []
+Known (Seen.Upto top) m first ks = Under top ks
+Known Seen.Marked m first ks = AllMarked m first ks
+
+abbrev pub isMarked : Seen → Bool
+isMarked Seen.Nothing = false
+isMarked (Seen.Upto top) = false
+isMarked Seen.Marked = true
+
+-- an integer above all before
+abbrev pub above : Seen → ℕ → Bool
+above Seen.Nothing r = true
+above (Seen.Upto top) r = ltb top r
+above Seen.Marked r = false
+
+unfoldable pub rises : Seen → KeyWords → Bool
+rises h w = eqb (w .tag) (tag Kind.int) && above h (rank (w .content))
 
 -- one key more
-pub record Raised (h : Highest) (w : KeyWords) (r : Highest) : Type 0 where
-  pub over : (n : ℕ) → Reaches h n → Reaches r n
-  pub covers : w .tag ≡ tag Kind.int → Reaches r (rank (w .content))
+unfoldable pub next : Seen → KeyWords → Seen
+next h w = elim (rises h w) [ true ↦ Seen.Upto (rank (w .content)) | false ↦ Seen.Marked ]
+
+-- the keys of the pairs are marked
+pub record MarkedAll (s t m m′ : List ℕ) (first node : ℕ) (h : Seen) : Type 0 where
+  pub grows : Grows m m′
+  pub all : (ks : List Key) → Chain s t first node ks → Known h m first ks → AllMarked m′ first ks
+
+-- the test of a key: whether it is among the pairs', and what is known with it
+pub record Tested (s t m m′ : List ℕ) (first node : ℕ) (w : KeyWords) (h : Seen) (r : Bool) : Type 0 where
+  pub answer : (k : Key) (ks : List Key) → Held s k w → Chain s t first node ks → Known h m first ks → r ≡ hasKey k ks
+  pub known : (k : Key) (ks : List Key) → Held s k w → Chain s t first node ks → Known h m first ks → Known (next h w) m′ first (ks ++ (k ∷ []))
+  pub grows : Grows m m′

@@ -1,7 +1,7 @@
 -- What a step of reading answers and leaves in the table, by the definitions of `Read`.
 use mathlib.Core.Path.{_≡_}
 use mathlib.Core.Bool.{true}
-use mathlib.Core.List.{List, []}
+use mathlib.Core.List.{List, [], _∷_, _++_}
 use Prim.Native.Nat.{ℕ, suc, _+_, _*_, _≤_, _<_}
 use lib.Dec.{T}
 use lib.ListN.{length, getD, drop}
@@ -18,10 +18,11 @@ use Rattle.reader.specs.declared.cursor.Cursor.{Cursor}
 use Rattle.reader.specs.declared.cursor.Step.{Step}
 use Rattle.reader.specs.declared.cursor.Gate.{Gate}
 use Rattle.keys.specs.KeyWords.{Held}
-use Rattle.reader.specs.declared.seen.Highest.{Highest}
+use Rattle.marks.specs.Marks.{Grows}
+use Rattle.reader.specs.declared.seen.Seen.{Seen}
 use Rattle.reader.specs.Texts.{kindFor, isArrayTag}
 use Rattle.reader.specs.Nodes.{wordAt}
-use Rattle.reader.specs.KeysSeen.{keyWords, Chain, Under}
+use Rattle.reader.specs.KeysSeen.{keyWords, Chain, Known, next}
 
 -- ---- ordinals and the nodes that take them
 
@@ -138,11 +139,17 @@ MeetsKey s t t′ capacity c o (Step.Done c′) = GoodKey s t t′ capacity c o 
 MeetsKey s t t′ capacity c o (Step.Refused code at) = o ≡ refused code at
 
 -- the keys read before are those that stand in the table
-pub record Earlier (s t : List ℕ) (first node : ℕ) (highest : Highest) (earlier : List Key) : Type 0 where
+pub record Earlier (s t m : List ℕ) (first node : ℕ) (seen : Seen) (earlier : List Key) : Type 0 where
   pub keys : List Key
   pub chain : Chain s t first node keys
   pub same : (k : Key) → hasKey k earlier ≡ hasKey k keys
-  pub under : Under highest keys
+  pub known : Known seen m first keys
+
+-- what is known of the keys once one more is read
+pub record Remembers (s t t′ m m′ : List ℕ) (first node : ℕ) (seen : Seen) (r : Step) : Type 0 where
+  pub grows : Grows m m′
+  pub known : (c′ : Cursor) → r ≡ Step.Done c′ → (k : Key) (ks : List Key) → Held s k (keyWords t′ node) → Chain s t first node ks → Known seen m first ks
+      → Known (next seen (keyWords t′ node)) m′ first (ks ++ (k ∷ []))
 
 -- the checks at a value's tag
 pub record IsOpen (s : List ℕ) (capacity : ℕ) (c : Cursor) (tag : ℕ) : Type 0 where

@@ -2,7 +2,7 @@
 use crate::cursor::Cursor;
 use crate::cursor::Step;
 use crate::cursor::refused;
-use crate::seen::Highest;
+use crate::seen::Seen;
 use crate::seen::key_seen;
 use crate::table::place;
 use format::kind::Kind;
@@ -14,7 +14,7 @@ ghost use Rattle.format.specs.Kind.{isTagOf, keyKinds};
 ghost use Rattle.format.specs.Syntax.{Key};
 ghost use Rattle.reader.specs.Texts.{isArrayTag};
 ghost use Rattle.reader.specs.KeysSeen.{Walk};
-ghost use Rattle.reader.specs.Steps.{Fit, Earlier, keyAt, MeetsKey};
+ghost use Rattle.reader.specs.Steps.{Fit, Earlier, keyAt, MeetsKey, Remembers};
 
 // Whether a tag may begin a key of a container with this tag.
 fn key_allowed(tag: u8, container: u8) -> bool
@@ -34,15 +34,17 @@ fn key_allowed(tag: u8, container: u8) -> bool
 pub(crate) fn read_key(
     source: &[u8],
     table: &mut [u64],
+    marks: &mut [u64],
     capacity: usize,
     container: u8,
     first: usize,
-    highest: Highest,
+    seen: Seen,
     cursor: Cursor,
 ) -> Step
     requires { ⌜ Fit (now source) (now table) capacity cursor ⌝ }
     requires { ⌜ Walk (now source) (now table) first (cursor .node) ⌝ }
-    ensures { λ r. ⌜ ((earlier : List Key) → Earlier (now (source .entry)) (now (table .entry)) first (cursor .node) highest earlier → MeetsKey (now (source .entry)) (now (table .entry)) (now (table .exit)) capacity cursor (keyAt (now (source .entry)) capacity container earlier cursor) r) ⌝ }
+    ensures { λ r. ⌜ ((earlier : List Key) → Earlier (now (source .entry)) (now (table .entry)) (now (marks .entry)) first (cursor .node) seen earlier → MeetsKey (now (source .entry)) (now (table .entry)) (now (table .exit)) capacity cursor (keyAt (now (source .entry)) capacity container earlier cursor) r) ⌝ }
+    ensures { λ r. ⌜ Remembers (now (source .entry)) (now (table .entry)) (now (table .exit)) (now (marks .entry)) (now (marks .exit)) first (cursor .node) seen r ⌝ }
 {
     let at = cursor.at;
     let node = cursor.node;
@@ -56,7 +58,7 @@ pub(crate) fn read_key(
     if capacity <= node {
         return Step::Refused(7, at);
     }
-    let scan = scanner::scalar::scalar(source, at + 1, tag);
+    let scan = scanner::scalar::of_key(source, at + 1, tag);
     let Scan::Is(text) = scan else {
         return refused(scan, at);
     };
@@ -65,7 +67,7 @@ pub(crate) fn read_key(
         content: text.content,
         size: text.size,
     };
-    if key_seen(source, table, first, node, key, highest) {
+    if key_seen(source, table, marks, first, node, key, seen) {
         return Step::Refused(9, at);
     }
     Step::Done(place(table, cursor, tag, text, false))

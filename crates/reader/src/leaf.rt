@@ -33,6 +33,26 @@ pub(crate) fn read_scalar(
     Step::Done(place(table, cursor, tag, text, true))
 }
 
+// The same, for the values of a container; called in one place only, so that the compiler keeps the scan in the loop over the pairs.
+pub(crate) fn read_common(
+    source: &[u8],
+    table: &mut [u64],
+    capacity: usize,
+    cursor: Cursor,
+    tag: u8,
+) -> Step
+    requires { ⌜ Fit (now source) (now table) capacity cursor ⌝ }
+    requires { ⌜ (cursor .at < length (now source)) × (cursor .node < capacity) × scalarTag tag ⌝ }
+    ensures { λ r. ⌜ ((inner : Inner) → Meets (now (source .entry)) (now (table .entry)) (now (table .exit)) capacity cursor (bodyAt (now (source .entry)) capacity inner tag cursor) r) ⌝ }
+{
+    let at = cursor.at;
+    let scan = scanner::scalar::of_value(source, at + 1, tag);
+    let Scan::Is(text) = scan else {
+        return refused(scan, at);
+    };
+    Step::Done(place(table, cursor, tag, text, true))
+}
+
 // A reference: its text, then 6, then its node, which says the node named.
 pub(crate) fn read_reference(
     source: &[u8],

@@ -1,4 +1,5 @@
-// Whether a key equals an earlier one of its container: by a walk over the pairs, or at once for an integer above all before.
+// Whether a key equals an earlier one of its container. New at once are an integer above all before, where only such came, and a key that is not marked;
+// what is marked is looked for among the pairs.
 use crate::WIDTH;
 use format::kind::Kind;
 use keys::KeyWords;
@@ -11,7 +12,7 @@ ghost use Rattle.format.specs.Syntax.{Key};
 ghost use Rattle.format.specs.Keys.{hasKey};
 ghost use Rattle.format.specs.Table.{width};
 ghost use Rattle.keys.specs.KeyWords.{Held};
-ghost use Rattle.reader.specs.KeysSeen.{rank, keyWords, Chain, Walk, Under, Raised};
+ghost use Rattle.reader.specs.KeysSeen.{rank, keyWords, Chain, Walk, MarkedAll, Tested, isMarked, rises, next};
 
 // Word 0 of an integer key.
 const INT_TAG: u64 = Kind::INT as u64;
@@ -19,10 +20,11 @@ const INT_TAG: u64 = Kind::INT as u64;
 // From a key's node on: word 5 of the value's node behind it says where the pair ends.
 const PAIR_END: usize = WIDTH + 5;
 
-// The highest rank of the integer keys so far.
-pub enum Highest {
+// What is known of the keys so far: there is none; no integer among them has a higher rank; all are marked.
+pub enum Seen {
     Nothing,
-    At(u64),
+    Upto(u64),
+    Marked,
 }
 
 // The place of an integer's pattern in the order of the integers.
@@ -61,47 +63,89 @@ fn walk(source: &[u8], table: &[u64], first: usize, node: usize, key: KeyWords) 
     false
 }
 
-// The same; an integer above the highest is new.
+// Whether all keys so far are marked.
+fn is_marked(seen: Seen) -> bool
+    ensures { λ r. ⌜ r ≡ isMarked seen ⌝ }
+{
+    match seen {
+        Seen::Nothing => false,
+        Seen::Upto(_) => false,
+        Seen::Marked => true,
+    }
+}
+
+// Whether an integer key is above all before, where only such came.
+fn rises(seen: Seen, key: KeyWords) -> bool
+    ensures { λ r. ⌜ r ≡ rises seen key ⌝ }
+{
+    if key.tag != INT_TAG {
+        return false;
+    }
+    match seen {
+        Seen::Nothing => true,
+        Seen::Upto(top) => top < rank(key.content),
+        Seen::Marked => false,
+    }
+}
+
+// What is known after one key more.
+pub(crate) fn next(seen: Seen, key: KeyWords) -> Seen
+    ensures { λ r. ⌜ r ≡ next seen key ⌝ }
+{
+    if rises(seen, key) {
+        return Seen::Upto(rank(key.content));
+    }
+    Seen::Marked
+}
+
+// Marks the keys of the pairs that stand from node `first` up to `node`, if they are not.
+fn mark_earlier(
+    source: &[u8],
+    table: &[u64],
+    marks: &mut [u64],
+    first: usize,
+    node: usize,
+    seen: Seen,
+)
+    requires { ⌜ node * width ≤ length (now table) ⌝ }
+    requires { ⌜ Walk (now source) (now table) first node ⌝ }
+    ensures { λ _. ⌜ MarkedAll (now (source .entry)) (now (table .entry)) (now (marks .entry)) (now (marks .exit)) first node seen ⌝ }
+{
+    if is_marked(seen) {
+        return;
+    }
+    let mut i = first;
+    while i < node {
+        let hash = marks::hash(source, first, key_at(table, i));
+        marks::enter(marks, hash);
+        i = table[i * WIDTH + PAIR_END] as usize;
+    }
+}
+
+// Whether a key equals one of those of the pairs that stand from node `first` up to `node`.
 pub(crate) fn key_seen(
     source: &[u8],
     table: &[u64],
+    marks: &mut [u64],
     first: usize,
     node: usize,
     key: KeyWords,
-    highest: Highest,
+    seen: Seen,
 ) -> bool
     requires { ⌜ node * width ≤ length (now table) ⌝ }
     requires { ⌜ Walk (now source) (now table) first node ⌝ }
-    ensures { λ r. ⌜ ((k : Key) (ks : List Key) → Held (now (source .entry)) k key → Chain (now (source .entry)) (now (table .entry)) first node ks → Under highest ks → r ≡ hasKey k ks) ⌝ }
+    ensures { λ r. ⌜ Tested (now (source .entry)) (now (table .entry)) (now (marks .entry)) (now (marks .exit)) first node key seen r ⌝ }
 {
-    if key.tag == INT_TAG {
-        match highest {
-            Highest::Nothing => return false,
-            Highest::At(top) => {
-                if top < rank(key.content) {
-                    return false;
-                }
-            }
-        }
+    if rises(seen, key) {
+        return false;
+    }
+    if marks.len() == 0 {
+        return walk(source, table, first, node, key);
+    }
+    mark_earlier(source, table, marks, first, node, seen);
+    let hash = marks::hash(source, first, key);
+    if !marks::enter(marks, hash) {
+        return false;
     }
     walk(source, table, first, node, key)
-}
-
-// The highest rank after one key more.
-pub(crate) fn raised(highest: Highest, key: KeyWords) -> Highest
-    ensures { λ r. ⌜ Raised highest key r ⌝ }
-{
-    if key.tag != INT_TAG {
-        return highest;
-    }
-    let new = rank(key.content);
-    match highest {
-        Highest::Nothing => Highest::At(new),
-        Highest::At(top) => {
-            if new <= top {
-                return highest;
-            }
-            Highest::At(new)
-        }
-    }
 }

@@ -6,11 +6,12 @@ use crate::cursor::check_tag;
 use crate::cursor::refused;
 use crate::head::head;
 use crate::key::read_key;
+use crate::leaf::read_common;
 use crate::leaf::read_reference;
 use crate::leaf::read_scalar;
-use crate::seen::Highest;
+use crate::seen::Seen;
 use crate::seen::key_at;
-use crate::seen::raised;
+use crate::seen::next;
 use crate::table::enter;
 use crate::table::put_end;
 use bytes_at::byte_is;
@@ -18,20 +19,68 @@ use format::kind::Kind;
 use scanner::Scan;
 ghost use Prim.Native.Nat.{_-_, _<_};
 ghost use lib.ListN.{length};
+ghost use Rattle.marks.specs.Marks.{Grows};
 ghost use Rattle.reader.specs.Texts.{containerTag};
 ghost use Rattle.reader.specs.Steps.{Fit, valueAt, bodyAt, innerAt, pairsAt, Meets, MeetsPairs};
 
 // A value: "The kind of a byte decides everything that follows".
-pub(crate) fn read_value(source: &[u8], table: &mut [u64], capacity: usize, cursor: Cursor) -> Step
+fn read_value(
+    source: &[u8],
+    table: &mut [u64],
+    marks: &mut [u64],
+    capacity: usize,
+    cursor: Cursor,
+) -> Step
     requires { ⌜ Fit (now source) (now table) capacity cursor ⌝ }
     ensures { λ r. ⌜ Meets (now (source .entry)) (now (table .entry)) (now (table .exit)) capacity cursor (valueAt (now (source .entry)) capacity cursor) r ⌝ }
+    ensures { λ r. ⌜ Grows (now (marks .entry)) (now (marks .exit)) ⌝ }
 {
     let at = cursor.at;
     let gate = check_tag(source, capacity, cursor);
     match gate {
         Gate::Shut(code) => Step::Refused(code, at),
         Gate::Open(tag) => match tag {
-            Kind::ARRAY | Kind::OBJECT => read_container(source, table, capacity, cursor, tag),
+            Kind::ARRAY | Kind::OBJECT => read_container(
+                source,
+                table,
+                marks,
+                capacity,
+                cursor,
+                tag,
+            ),
+            Kind::OBJECT_REFERENCE | Kind::VARIABLE_REFERENCE => {
+                read_reference(source, table, capacity, cursor, tag)
+            }
+            _ => read_common(source, table, capacity, cursor, tag),
+        },
+    }
+}
+
+// A plan's own value, around all others. Reads as `read_value` does, which so is called in one place only, and the compiler keeps it in the loop over the pairs.
+pub(crate) fn read_root(
+    source: &[u8],
+    table: &mut [u64],
+    marks: &mut [u64],
+    capacity: usize,
+    cursor: Cursor,
+) -> Step
+    requires { ⌜ Fit (now source) (now table) capacity cursor ⌝ }
+    ensures { λ r. ⌜ Meets (now (source .entry)) (now (table .entry)) (now (table .exit)) capacity cursor (valueAt (now (source .entry)) capacity cursor) r ⌝ }
+    ensures { λ r. ⌜ Grows (now (marks .entry)) (now (marks .exit)) ⌝ }
+{
+    let at = cursor.at;
+    let gate = check_tag(source, capacity, cursor);
+    match gate {
+        Gate::Shut(code) => Step::Refused(code, at),
+        Gate::Open(tag) => match tag {
+            Kind::ARRAY | Kind::OBJECT => read_container(
+                source,
+                table,
+                marks,
+                capacity,
+                cursor,
+                tag,
+            ),
             Kind::OBJECT_REFERENCE | Kind::VARIABLE_REFERENCE => {
                 read_reference(source, table, capacity, cursor, tag)
             }
@@ -44,6 +93,7 @@ pub(crate) fn read_value(source: &[u8], table: &mut [u64], capacity: usize, curs
 fn read_container(
     source: &[u8],
     table: &mut [u64],
+    marks: &mut [u64],
     capacity: usize,
     cursor: Cursor,
     tag: u8,
@@ -51,6 +101,7 @@ fn read_container(
     requires { ⌜ Fit (now source) (now table) capacity cursor ⌝ }
     requires { ⌜ (cursor .at < length (now source)) × (cursor .node < capacity) × (0 < cursor .levels) × containerTag tag ⌝ }
     ensures { λ r. ⌜ Meets (now (source .entry)) (now (table .entry)) (now (table .exit)) capacity cursor (bodyAt (now (source .entry)) capacity (innerAt (now (source .entry)) capacity (cursor .levels - 1)) tag cursor) r ⌝ }
+    ensures { λ r. ⌜ Grows (now (marks .entry)) (now (marks .exit)) ⌝ }
 {
     let at = cursor.at;
     let scan = head(source, at, tag);
@@ -58,7 +109,7 @@ fn read_container(
         return refused(scan, at);
     };
     let inside = enter(table, cursor, tag, text);
-    let step = read_pairs(source, table, capacity, tag, inside, text.link);
+    let step = read_pairs(source, table, marks, capacity, tag, inside, text.link);
     let Step::Done(last) = step else {
         return step;
     };
@@ -79,6 +130,7 @@ fn read_container(
 fn read_pairs(
     source: &[u8],
     table: &mut [u64],
+    marks: &mut [u64],
     capacity: usize,
     container: u8,
     start: Cursor,
@@ -86,23 +138,35 @@ fn read_pairs(
 ) -> Step
     requires { ⌜ Fit (now source) (now table) capacity start ⌝ }
     ensures { λ r. ⌜ MeetsPairs (now (source .entry)) (now (table .entry)) (now (table .exit)) capacity start (pairsAt (now (source .entry)) capacity container count start) r ⌝ }
+    ensures { λ r. ⌜ Grows (now (marks .entry)) (now (marks .exit)) ⌝ }
 {
     let first = start.node;
     let mut cursor = start;
     let mut more = count;
-    let mut highest = Highest::Nothing;
+    let mut seen = Seen::Nothing;
     while 0 < more {
         let node = cursor.node;
-        let key = read_key(source, table, capacity, container, first, highest, cursor);
+        let key = read_key(
+            source,
+            table,
+            marks,
+            capacity,
+            container,
+            first,
+            seen,
+            cursor,
+        );
         let Step::Done(behind) = key else {
             return key;
         };
-        highest = raised(highest, key_at(table, node));
-        let value = read_value(source, table, capacity, behind);
-        let Step::Done(next) = value else {
-            return value;
-        };
-        cursor = next;
+        seen = next(seen, key_at(table, node));
+        let value = read_value(source, table, marks, capacity, behind);
+        match value {
+            Step::Done(next) => {
+                cursor = next;
+            }
+            Step::Refused(code, at) => return Step::Refused(code, at),
+        }
         more -= 1;
     }
     Step::Done(cursor)

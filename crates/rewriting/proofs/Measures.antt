@@ -134,8 +134,24 @@ module _ (s key value : List ℕ) (p : Spot) where
       within = record { low = omega (arith, inserted-most) };
     }
 
-pub canonical-text-most : (s : List ℕ) → length (canonicalText s) ≤ 2 * length s
-canonical-text-most s = rewritten-most Change.Canonical s 0 (length s)
+tokens-shorter : (ts : List Token) → length (changedText Change.Canonical ts) ≤ length (writeTokens ts [])
+tokens-shorter [] = omega arith
+tokens-shorter (t ∷ ts) = omega (
+  arith,
+  tokens-shorter ts,
+  canonical-most t,
+  ap length (token-front t [] (writeTokens ts [])),
+  length-append (writeToken t []) (writeTokens ts []),
+  ap length (token-front (canonicalToken t) [] (changedText Change.Canonical ts)),
+  length-append (writeToken (canonicalToken t) []) (changedText Change.Canonical ts),
+)
+
+-- a canonical text is never longer than its source
+pub canonical-text-most : (s : List ℕ) → length (canonicalText s) ≤ length s
+canonical-text-most s =
+    let g : Prefix (drop 0 s) (tokensBetween s 0 (length s)) = between-prefix s 0 (length s) in
+    let ts : List Token = tokensBetween s 0 (length s) in
+    omega (arith, tokens-shorter ts, ap length (g .text ∙ tokens-front ts (g .rest)), length-append (writeTokens ts []) (g .rest), length-drop 0 s)
 
 pub canonical-within : (s : List ℕ) → length s ≤ sourceLimit → Within (canonicalText s) 0
 canonical-within s h = record { low = omega (arith, canonical-text-most s) }

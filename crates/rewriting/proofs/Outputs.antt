@@ -1,16 +1,17 @@
 -- Laws of texts put into an output, and of the parts of a source that are copied. Assumes nothing.
-use Prim.Native.Nat.{ℕ, zero, suc, _+_, _-_, _≤_, _<_}
+use Prim.Native.Nat.{ℕ, zero, suc, _+_, _-_, _≤_, _<_, min}
 use native.Mathlib.Nat.{add-zero, add-suc, zero-add, suc-add}
 use native.Mathlib.Numerals.{add-one}
 use native.Mathlib.Omega.{arith}
 use mathlib.Core.Path.{_≡_, refl, sym, ap, ap₂, _∙_, subst}
 use mathlib.Core.List.{List, [], _∷_, _++_}
 use mathlib.Core.Bool.{Bool, true, false}
-use lib.ListN.{length, getD, take, drop, set, length-append, drop-of-length-le}
-use lib.Seq.{sets, slice, length-slice, drop-cons, drop-drop, take-nil, getD-take, getD-drop, take-append-seam, drop-append-seam}
+use lib.ListN.{length, getD, take, drop, set, length-set, length-append, drop-of-length-le}
+use lib.Seq.{sets, set-out, slice, length-slice, drop-cons, drop-drop, take-nil, getD-take, getD-drop, take-append-seam, drop-append-seam}
 use Rattle.decimal.specs.Digits.{decimal}
 use Rattle.decimal.specs.Promise.{SignedOf}
 use Rattle.decimal.specs.declared.Signed.{Signed}
+use Rattle.decimal.proofs.Decide.{Order, below, above, order}
 use Rattle.decimal.proofs.Stores.{sets-append}
 use Rattle.rewriting.specs.Output.{withSign, signedDigits, Within, Puts}
 
@@ -57,6 +58,10 @@ slice-of s at a b c e from to f t =
 
 -- ---- copying
 
+sets-out : (out : List ℕ) (i : ℕ) (t : List ℕ) → length out ≤ i → sets out i t ≡ out
+sets-out out i [] h = refl
+sets-out out i (x ∷ t) h = ap (λ (o : List ℕ). sets o (suc i) t) (set-out out i x h) ∙ sets-out out (suc i) t (omega (arith, h))
+
 -- what is left of the part, with what was copied of it, is the part
 pub record Copied (s : List ℕ) (from to w : ℕ) (out₀ : List ℕ) (i : ℕ) (out : List ℕ) : Type 0 where
   pub upto : i ≤ to - from
@@ -67,17 +72,28 @@ module _ (s : List ℕ) (from to w : ℕ) (out₀ : List ℕ) where
   pub copied-none : Copied s from to w out₀ 0 out₀
   copied-none = record { upto = omega arith; text = rw (add-zero w); same = refl }
 
-  pub copied-more : (i : ℕ) (out out′ : List ℕ) → to ≤ length s → Copied s from to w out₀ i out → i < to - from → out′ ≡ set out (w + i) (getD s (from + i) 0) → length out′ ≡ length out
+  pub copied-more : (i : ℕ) (out out′ : List ℕ) → to ≤ length s → Copied s from to w out₀ i out → i < to - from → out′ ≡ set out (w + i) (getD s (from + i) 0)
       → Copied s from to w out₀ (i + 1) out′
-  copied-more i out out′ h c l e k =
+  copied-more i out out′ h c l e =
       let x : List ℕ = slice from to s in
       let m : drop i x ≡ getD s (from + i) 0 ∷ drop (suc i) x = drop-cons x i 0 (omega (arith, length-slice from to s h)) ∙ ap {B = List ℕ} (λ b. b ∷ drop (suc i) x) (slice-at s from to i l) in
-      record { upto = omega arith; text = rw (e, add-one, add-suc) (rw m at (c .text)); same = k ∙ c .same }
+      record { upto = omega arith; text = rw (e, add-one, add-suc) (rw m at (c .text)); same = ap length e ∙ length-set out (w + i) (getD s (from + i) 0) ∙ c .same }
 
-  pub copied-all : (i : ℕ) (out : List ℕ) → to ≤ length s → Copied s from to w out₀ i out → to - from ≤ i → Puts (slice from to s) w out₀ (w + (to - from)) out
+  copied-all : (i : ℕ) (out : List ℕ) → to ≤ length s → Copied s from to w out₀ i out → to - from ≤ i → Puts (slice from to s) w out₀ (w + (to - from)) out
   copied-all i out h c l =
       let none : drop i (slice from to s) ≡ [] = drop-of-length-le (slice from to s) {i = i} (omega (arith, length-slice from to s h)) in
       record { end = rw (length-slice from to s h); text = rw none at (c .text) }
+
+  -- where the output ends, what is left of the part is lost
+  copied-full : (i : ℕ) (out : List ℕ) → to ≤ length s → Copied s from to w out₀ i out → length out₀ ≤ w + i → Puts (slice from to s) w out₀ (w + (to - from)) out
+  copied-full i out h c l = record { end = rw (length-slice from to s h); text = sym (sets-out out (w + i) (drop i (slice from to s)) (omega (arith, c .same, l))) ∙ c .text }
+
+  pub copied-most : (i : ℕ) (out : List ℕ) → to ≤ length s → Copied s from to w out₀ i out → min (length out₀ - w) (to - from) ≤ i → Puts (slice from to s) w out₀ (w + (to - from)) out
+  copied-most i out h c l = by (order i (to - from))
+    where
+      by : Order i (to - from) → Puts (slice from to s) w out₀ (w + (to - from)) out
+      by (below k) = copied-full i out h c (omega (arith, k, l))
+      by (above k) = copied-all i out h c k
 
 -- ---- integers
 

@@ -1,9 +1,23 @@
 // Texts written to a lent output. Stores past its end are lost, so that the same code measures a text and writes it.
-ghost use Prim.Native.Nat.{_≤_};
+ghost use mathlib.Core.Path.{_≡_};
+ghost use Prim.Native.Nat.{_-_, _≤_, min};
 ghost use lib.ListN.{length};
 ghost use lib.Seq.{slice};
 ghost use Rattle.decimal.specs.Digits.{decimal};
 ghost use Rattle.rewriting.specs.Output.{signedDigits, Within, Puts};
+
+// How many of so many bytes from an index on there is room for.
+fn room_for(room: usize, w: usize, size: usize) -> usize
+    ensures { λ r. ⌜ r ≡ min (room - w) size ⌝ }
+{
+    if room <= w {
+        return 0;
+    }
+    if room - w < size {
+        return room - w;
+    }
+    size
+}
 
 // The bytes of the source from one index up to another; the index behind them.
 pub(crate) fn copy(source: &[u8], from: usize, to: usize, out: &mut [u8], w: usize) -> usize
@@ -11,9 +25,10 @@ pub(crate) fn copy(source: &[u8], from: usize, to: usize, out: &mut [u8], w: usi
     ensures { λ r. ⌜ Puts (slice from to (now (source .entry))) w (now (out .entry)) r (now (out .exit)) ⌝ }
 {
     let size = to - from;
+    let count = room_for(out.len(), w, size);
     let mut i = 0;
-    while i < size {
-        decimal::put(out, w, i, source[from + i]);
+    while i < count {
+        out[w + i] = source[from + i];
         i += 1;
     }
     w + size

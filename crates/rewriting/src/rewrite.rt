@@ -5,7 +5,7 @@ use crate::shortest::shortest;
 use format::kind::Kind;
 use scanner::Scan;
 use scanner::Text;
-use tokens::token;
+use tokens::in_line;
 ghost use Rattle.rewriting.specs.Output.{Within, Puts};
 ghost use Rattle.rewriting.specs.Shortest.{Bounds};
 ghost use Rattle.rewriting.specs.Rewriting.{Named, raisedText, respelledText, rewrittenText};
@@ -61,7 +61,7 @@ pub(crate) fn rewrite(
     let mut at = from;
     let mut end = w;
     while at < to {
-        let scan = token(source, at);
+        let scan = in_line(source, at);
         let Scan::Is(text) = scan else {
             return end;
         };

@@ -24,9 +24,10 @@ use Rattle.format.specs.Read.{expect, digits, number, intText}
 use Rattle.format.specs.Table.{word}
 use Rattle.format.proofs.Answers.{ok-same, not-both, bind-ok, bind-refused}
 use Rattle.scanner.specs.declared.Text.{Text}
+use Rattle.scanner.specs.declared.number.Front.{Front}
 use Rattle.scanner.specs.declared.Scan.{Scan}
 use Rattle.scanner.specs.Scans.{Reader, Told, Found, Scans, found, unfit, scanned, scanOf, Answers, countText, namedText, tell, valueTold, literalTold, countTold}
-use Rattle.scanner.specs.Parts.{digitsText, signedText, signedTold}
+use Rattle.scanner.specs.Parts.{digitsText, signedText, signedTold, isMinus, FrontIs}
 use Rattle.bytes_at.specs.ByteAt.{byteAt}
 use Rattle.bytes_at.proofs.BytesAt.{byte-there, expect-yes, expect-no, pair-there, pair-yes, pair-no}
 use Rattle.bytes_at.proofs.Signs.{SignAt}
@@ -175,10 +176,14 @@ pub magnitude-not : {s : List ℕ} {at c : ℕ} {r : Scan} (negative : Bool) (to
 unfolding signedText
 magnitude-not negative top h e = unfit-part h e (λ l q. rw (signedText, q))
 
-abbrev isMinus : Sign → Bool
-isMinus unsigned = false
-isMinus plus = false
-isMinus minus = true
+pub limit-low : (g : Sign) → integerLimit g < 18446744073709551615
+limit-low unsigned = lit< tt
+limit-low plus = lit< tt
+limit-low minus = lit< tt
+
+-- the sign that a scan finds
+pub front-is : (s : List ℕ) (at : ℕ) (g : Sign) (r : Front) → SignAt s at g (r .from) → r .negative ≡ isMinus g → r .top ≡ integerLimit g → FrontIs s at r
+front-is s at g r h n t = record { sign = g; is = h .is; on = h .on; negative = n; top = t }
 
 abbrev literal : Sign → ℕ × ℕ → Literal
 literal g n = record { sign = g; zeros = n .0; magnitude = n .1 }
@@ -209,6 +214,9 @@ module _ (s : List ℕ) (at : ℕ) where
           inside = f .inside;
         }
     int-is r (unfit c f) = unfit c (λ l. opened l ∙ rw (f l))
+
+  pub int-front : eqb (byteAt s at) (byte ":") ≡ true → (f : Front) (h : FrontIs s (at + 1) f) (r : Scan) → Scans (signedText (f .top)) (signedTold (f .negative)) s (f .from) r → Scans intText literalTold s at r
+  int-front colon f h r e = int-is colon (h .sign) (f .from) (record { is = h .is; on = h .on }) r (subst (λ (n : Bool). Scans (signedText (integerLimit (h .sign))) (signedTold n) s (f .from) r) (h .negative) (subst (λ (t : ℕ). Scans (signedText t) (signedTold (f .negative)) s (f .from) r) (h .top) e))
 
 -- ---- counts and ordinals named
 

@@ -1,6 +1,6 @@
 -- Laws of the texts of scalars. Assumes nothing.
 use Prim.Native.Nat.{ℕ}
-use mathlib.Core.Path.{_≡_, refl, sym}
+use mathlib.Core.Path.{_≡_, refl, sym, subst}
 use mathlib.Core.List.{List, [], _∷_}
 use borrow.Author.Tests.{ne-eqb}
 use Rattle.format.specs.Bytes.{byte, bytes}
@@ -10,7 +10,7 @@ use Rattle.format.specs.Answer.{ok}
 use Rattle.format.specs.Read.{kindOf, expect, intText, quotedText, boolText, floatText}
 use Rattle.format.proofs.Answers.{bind-map}
 use Rattle.scanner.specs.declared.Scan.{Scan}
-use Rattle.scanner.specs.Scans.{Scans, unfit, nullText, scalarText, scalarBehind, nothingTold, boolTold, literalTold, floatTold, quotedTold, scalarTold}
+use Rattle.scanner.specs.Scans.{Scans, Answers, unfit, nullText, scalarText, scalarBehind, nothingTold, boolTold, literalTold, floatTold, quotedTold, scalarTold}
 use Rattle.scanner.proofs.Numbers.{scans-map, scans-same}
 
 module _ (s : List ℕ) (at b : ℕ) (r : Scan) where
@@ -38,6 +38,10 @@ module _ (s : List ℕ) (at b : ℕ) (r : Scan) where
   pub scalar-string : b ≡ tag Kind.string → Scans (λ l. quotedText l (byte "\"" ∷ byte ";" ∷ [])) (quotedTold at) s at r → Scans (scalarBehind b) (scalarTold at) s at r
   unfolding scalarText
   scalar-string e h = of-kind Kind.string (λ l. rw e) (scans-map string (λ l s. refl) (λ x next. refl) h)
+
+-- a tag that the code knows
+pub tag-as : (s : List ℕ) (at b : ℕ) (r : Scan) {k : ℕ} → b ≡ k → Answers (scalarBehind k) (scalarTold at) s at r → Answers (scalarBehind b) (scalarTold at) s at r
+tag-as s at b r e h = subst (λ (x : ℕ). Answers (scalarBehind x) (scalarTold at) s at r) (sym e) h
 
 pub scalar-none : (s : List ℕ) (at b : ℕ) → (b ≡ tag Kind.null → ⊥) → (b ≡ tag Kind.bool → ⊥) → (b ≡ tag Kind.int → ⊥) → (b ≡ tag Kind.float → ⊥) → (b ≡ tag Kind.string → ⊥)
     → Scans (scalarBehind b) (scalarTold at) s at (Scan.Not 3)

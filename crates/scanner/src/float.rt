@@ -3,11 +3,11 @@ use crate::Scan;
 use crate::Text;
 use bytes_at::byte_is;
 use floats::is_float;
-ghost use Prim.Native.Nat.{_≤_};
+ghost use Prim.Native.Nat.{_≤_, _<_};
 ghost use lib.ListN.{length};
 ghost use Rattle.format.specs.Read.{floatText};
 ghost use Rattle.scanner.specs.Scans.{Answers, floatTold};
-ghost use Rattle.scanner.specs.Parts.{SemicolonAt};
+ghost use Rattle.scanner.specs.Parts.{SemicolonAt, PlainEnd};
 
 // The index of the next semicolon, or the source's length.
 fn semicolon_at(source: &[u8], at: usize) -> usize
@@ -45,4 +45,27 @@ pub fn float(source: &[u8], at: usize) -> Scan
         link: 0,
         next: end + 1,
     })
+}
+
+// Where digits with at most one point end at a semicolon; or the index itself, where they do not.
+pub(crate) fn plain_end(source: &[u8], from: usize) -> usize
+    ensures { λ r. ⌜ (from < r → PlainEnd (now (source .entry)) from r) ⌝ }
+{
+    let whole = decimal::run_at(source, from, 0);
+    let point = whole.next;
+    if point == from {
+        return from;
+    }
+    if byte_is(source, point, b';') {
+        return point;
+    }
+    if !byte_is(source, point, b'.') {
+        return from;
+    }
+    let fraction = decimal::run_at(source, point + 1, 0);
+    let end = fraction.next;
+    if byte_is(source, end, b';') {
+        return end;
+    }
+    from
 }

@@ -6,7 +6,7 @@ use bytes_at::bytes_are;
 ghost use Prim.Native.Nat.{_-_, _<_, _^_};
 ghost use Rattle.format.specs.Read.{intText};
 ghost use Rattle.scanner.specs.Scans.{Scans, Answers, countText, namedText, valueTold, literalTold, countTold};
-ghost use Rattle.scanner.specs.Parts.{digitsText, signedText, signedTold};
+ghost use Rattle.scanner.specs.Parts.{digitsText, signedText, signedTold, FrontIs};
 
 // "*Number* below means digits without sign, of value at most 65,536."
 pub(crate) const NUMBER_LIMIT: u64 = 65536;
@@ -59,6 +59,38 @@ fn magnitude(source: &[u8], at: usize, negative: bool, top: u64) -> Scan
     })
 }
 
+// An integer's sign at an index: the index behind it, whether it is a minus, and the greatest magnitude that it allows.
+pub struct Front {
+    pub from: usize,
+    pub negative: bool,
+    pub top: u64,
+}
+
+// The sign that stands at an index, or none.
+fn sign_at(source: &[u8], at: usize) -> Front
+    ensures { λ r. ⌜ FrontIs (now (source .entry)) at r ⌝ }
+{
+    if byte_is(source, at, b'+') {
+        return Front {
+            from: at + 1,
+            negative: false,
+            top: POSITIVE_LIMIT,
+        };
+    }
+    if byte_is(source, at, b'-') {
+        return Front {
+            from: at + 1,
+            negative: true,
+            top: NEGATIVE_LIMIT,
+        };
+    }
+    Front {
+        from: at,
+        negative: false,
+        top: POSITIVE_LIMIT,
+    }
+}
+
 // An integer.
 pub fn int(source: &[u8], at: usize) -> Scan
     ensures { λ r. ⌜ Answers intText literalTold (now (source .entry)) at r ⌝ }
@@ -66,14 +98,8 @@ pub fn int(source: &[u8], at: usize) -> Scan
     if !byte_is(source, at, b':') {
         return Scan::Not(2);
     }
-    let from = at + 1;
-    if byte_is(source, from, b'+') {
-        return magnitude(source, from + 1, false, POSITIVE_LIMIT);
-    }
-    if byte_is(source, from, b'-') {
-        return magnitude(source, from + 1, true, NEGATIVE_LIMIT);
-    }
-    magnitude(source, from, false, POSITIVE_LIMIT)
+    let front = sign_at(source, at + 1);
+    magnitude(source, front.from, front.negative, front.top)
 }
 
 // A count of pairs and the opening brace, from behind the colon on.

@@ -15,7 +15,7 @@ returns-3 : tie.Need-returns-3
 returns-3 c = λ e. absurd (ended.differ (sym e))
 
 returns-4 : tie.Need-returns-4
-returns-4 c = λ e. ended.short _ _ _ _ (omega (arith, c .before .before .if1 .left)) (omega (arith, c .before .if2 .left)) (omega (arith, c .if3 .left)) e
+returns-4 c = λ e. ended.is-short _ _ _ _ (omega (arith, c .before .before .if1 .left)) (omega (arith, c .before .if2 .left)) (omega (arith, c .if3 .left)) e
 
 pub is-short-spec : {M : Type 1} → statement M
 is-short-spec = tie.close (tie.spec returns returns-2 returns-3 returns-4)

@@ -7,11 +7,11 @@ use borrow.Author.Needs.{needs}
 use Rattle.editor.proofs.room_for.Statement.{statement}
 use Rattle.editor.proofs.room_for.Tie as tie
 
-is-short-requires : tie.Need-is-short-requires
-is-short-requires c κs = search needs
+is-spared-requires : tie.Need-is-spared-requires
+is-spared-requires c κs = search needs
 
 returns : tie.Need-returns
-returns c = record { same = refl; room = ended.short-room (c .before .before .before .before .before .before .args .source .now) (c .before .before .before .before .before .before .args .edit) (c .before .before .before .before .before .before .args .key .now) (c .before .before .before .before .before .before .args .value .now) (c .before .is-short .ensures (c .if1 .taken)) }
+returns c = record { same = refl; room = ended.spared-room (c .before .before .before .before .before .before .args .source .now) (c .before .before .before .before .before .before .args .edit) (c .before .before .before .before .before .before .args .key .now) (c .before .before .before .before .before .before .args .value .now) (c .before .is-spared .ensures (c .if1 .taken)) }
 
 slice-relend-prefix-write : tie.Need-slice-relend-prefix-write
 slice-relend-prefix-write c = search needs
@@ -47,7 +47,7 @@ pub room-for-spec : {M : Type 1} → statement M
 room-for-spec =
     tie.close
     (tie.spec
-    is-short-requires
+    is-spared-requires
     returns
     slice-relend-prefix-write
     slice-aggregate-write

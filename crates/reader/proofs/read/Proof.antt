@@ -4,8 +4,8 @@ use Rattle.reader.proofs.WholeSteps as whole
 use Rattle.reader.proofs.read.Statement.{statement}
 use Rattle.reader.proofs.read.Tie as tie
 
-read-whole-requires : tie.Need-read-whole-requires
-read-whole-requires c κs = search needs
+read-by-length-requires : tie.Need-read-by-length-requires
+read-by-length-requires c κs = search needs
 
 enum-known-step : tie.Need-enum-known-step
 enum-known-step c = search needs
@@ -20,19 +20,19 @@ same-length : tie.Need-same-length
 same-length c = search needs
 
 returns : tie.Need-returns
-returns c = whole.reads-refused _ _ _ _ (c .before .before .before .before .before .before .before .before .before .read-whole .result) _ _ (c .before .before .before .before .before .before .before .before .before .read-whole .ensures) (c .before .before .before .before .before .step .given .1) (c .before .before .clear .ensures) (c .before .before .before .before .before .before .before .before .before .read-whole .kept .1 .0)
+returns c = whole.reads-refused _ _ _ _ (c .before .before .before .before .before .before .before .before .before .read-by-length .result) _ _ (c .before .before .before .before .before .before .before .before .before .read-by-length .ensures) (c .before .before .before .before .before .step .given .1) (c .before .before .clear .ensures) (c .before .before .before .before .before .before .before .before .before .read-by-length .kept .1 .0)
 
 same-length-2 : tie.Need-same-length-2
 same-length-2 c = search needs
 
 returns-2 : tie.Need-returns-2
-returns-2 c = whole.reads-accepted _ _ _ (c .before .before .before .before .before .before .before .before .before .args .table .now) (c .before .before .before .before .before .read-whole .result) _ (c .before .before .before .before .before .read-whole .ensures) (c .before .step2 .given .1)
+returns-2 c = whole.reads-accepted _ _ _ (c .before .before .before .before .before .before .before .before .before .args .table .now) (c .before .before .before .before .before .read-by-length .result) _ (c .before .before .before .before .before .read-by-length .ensures) (c .before .step2 .given .1)
 
 pub read-spec : {M : Type 1} → statement M
 read-spec =
     tie.close
     (tie.spec
-    read-whole-requires
+    read-by-length-requires
     enum-known-step
     clear-requires
     enum-known-step-2

@@ -9,8 +9,8 @@ use Rattle.reader.proofs.read_whole.Tie as tie
 returns : tie.Need-returns
 returns c = whole.whole-long _ _ (c .if1 .taken)
 
-read-value-requires : tie.Need-read-value-requires
-read-value-requires c κs = search needs
+read-root-requires : tie.Need-read-root-requires
+read-root-requires c κs = search needs
 
 enum-known-step : tie.Need-enum-known-step
 enum-known-step c = search needs
@@ -21,32 +21,44 @@ enum-told c = search needs
 same-length : tie.Need-same-length
 same-length c = search needs
 
-returns-2 : tie.Need-returns-2
-returns-2 c = whole.whole-refused _ (c .before .before .before .before .before .before .before .before .before .args .table .now) (c .before .before .before .before .read-value .last .1 .0) _ _ _ _ (c .enum-told .given .1) (whole.whole-bad _ _ (c .before .before .before .before .before .before .if1 .left) _ _ (subst (Meets _ _ _ _ _ _) (c .enum-told .given .1) (c .before .before .before .before .read-value .ensures)))
-
 same-length-2 : tie.Need-same-length-2
 same-length-2 c = search needs
 
-returns-3 : tie.Need-returns-3
-returns-3 c = whole.whole-more _ _ _ _ _ (c .before .before .before .before .before .before .before .before .if1 .left) (subst (Meets _ _ _ _ _ _) (c .before .before .step .given .1) (c .before .before .before .before .before .before .read-value .ensures)) (c .if2 .taken)
+returns-2 : tie.Need-returns-2
+returns-2 c = whole.whole-refused _ (c .before .before .before .before .before .before .before .before .before .before .before .before .before .args .table .now) (c .before .before .before .before .before .before .read-root .last .1 .0) _ _ _ _ (c .enum-told .given .1) (whole.whole-bad _ _ (c .before .before .before .before .before .before .before .before .before .if1 .left) _ _ (subst (Meets _ _ _ _ _ _) (c .enum-told .given .1) (c .before .before .before .before .before .before .read-root .ensures .0)))
 
 same-length-3 : tie.Need-same-length-3
 same-length-3 c = search needs
 
+same-length-4 : tie.Need-same-length-4
+same-length-4 c = search needs
+
+returns-3 : tie.Need-returns-3
+returns-3 c = whole.whole-more _ _ _ _ _ (c .before .before .before .before .before .before .before .before .before .before .before .if1 .left) (subst (Meets _ _ _ _ _ _) (c .before .before .step .given .1) (c .before .before .before .before .before .before .before .before .read-root .ensures .0)) (c .if2 .taken)
+
+same-length-5 : tie.Need-same-length-5
+same-length-5 c = search needs
+
+same-length-6 : tie.Need-same-length-6
+same-length-6 c = search needs
+
 returns-4 : tie.Need-returns-4
-returns-4 c = whole.whole-good _ _ _ _ _ (c .before .before .before .before .before .before .before .before .if1 .left) (subst (Meets _ _ _ _ _ _) (c .before .before .step .given .1) (c .before .before .before .before .before .before .read-value .ensures)) (c .if2 .left)
+returns-4 c = whole.whole-good _ _ _ _ _ (c .before .before .before .before .before .before .before .before .before .before .before .if1 .left) (subst (Meets _ _ _ _ _ _) (c .before .before .step .given .1) (c .before .before .before .before .before .before .before .before .read-root .ensures .0)) (c .if2 .left)
 
 pub read-whole-spec : {M : Type 1} → statement M
 read-whole-spec =
     tie.close
     (tie.spec
     returns
-    read-value-requires
+    read-root-requires
     enum-known-step
     enum-told
     same-length
-    returns-2
     same-length-2
-    returns-3
+    returns-2
     same-length-3
+    same-length-4
+    returns-3
+    same-length-5
+    same-length-6
     returns-4)

@@ -6,14 +6,16 @@ use lib.ListN.{getD}
 use borrow.Author.Tests.{not-true, not-false}
 use Rattle.scanner.proofs.Numbers.{found-of}
 use Rattle.reader.specs.Texts.{isArrayTag}
+use Rattle.marks.proofs.Marking.{grows-none}
 use Rattle.reader.proofs.Tagged as tagged
+use Rattle.reader.proofs.Leaves.{refused-is}
 use Rattle.reader.proofs.ScalarTexts.{key-behind}
 use Rattle.reader.proofs.KeySteps as steps
 use Rattle.reader.proofs.key.read_key.Statement.{statement}
 use Rattle.reader.proofs.key.read_key.Tie as tie
 
 returns : tie.Need-returns
-returns c = λ earlier e. steps.key-end _ _ _ _ earlier (c .if1 .taken) (c .before .before .before .pre .0 .inside)
+returns c = (λ earlier e. steps.key-end _ _ _ _ earlier (c .if1 .taken) (c .before .before .before .before .pre .0 .inside), steps.none-more _ _ _ _ _ _ _ _ _ _ _ refl (grows-none _))
 
 shared-slice-read-tag : tie.Need-shared-slice-read-tag
 shared-slice-read-tag c = search needs
@@ -22,16 +24,16 @@ key-allowed-requires : tie.Need-key-allowed-requires
 key-allowed-requires c κs = search needs
 
 returns-2 : tie.Need-returns-2
-returns-2 c = λ earlier e. steps.key-other _ _ _ _ earlier _ (c .before .before .before .if1 .left) refl (sym (c .before .key-allowed .ensures) ∙ not-true _ (c .if2 .taken))
+returns-2 c = (λ earlier e. steps.key-other _ _ _ _ earlier _ (c .before .before .before .if1 .left) refl (sym (c .before .key-allowed .ensures) ∙ not-true _ (c .if2 .taken)), steps.none-more _ _ _ _ _ _ _ _ _ _ _ refl (grows-none _))
 
 returns-3 : tie.Need-returns-3
-returns-3 c = λ earlier e. steps.key-full _ _ _ _ earlier _ (c .before .before .before .before .if1 .left) refl (sym (c .before .before .key-allowed .ensures) ∙ not-false _ (c .before .if2 .left)) (c .if3 .taken)
+returns-3 c = (λ earlier e. steps.key-full _ _ _ _ earlier _ (c .before .before .before .before .if1 .left) refl (sym (c .before .before .key-allowed .ensures) ∙ not-false _ (c .before .if2 .left)) (c .if3 .taken), steps.none-more _ _ _ _ _ _ _ _ _ _ _ refl (grows-none _))
 
-add-scalar : tie.Need-add-scalar
-add-scalar c = search needs
+add-of-key : tie.Need-add-of-key
+add-of-key c = search needs
 
-scalar-requires : tie.Need-scalar-requires
-scalar-requires c κs = search needs
+of-key-requires : tie.Need-of-key-requires
+of-key-requires c κs = search needs
 
 enum-known-scan : tie.Need-enum-known-scan
 enum-known-scan c = search needs
@@ -43,28 +45,34 @@ refused-requires : tie.Need-refused-requires
 refused-requires c κs = search needs
 
 returns-4 : tie.Need-returns-4
-returns-4 c = λ earlier e. steps.key-not _ _ _ _ earlier _ (c .before .before .before .before .before .before .before .before .if1 .left) refl (sym (c .before .before .before .before .before .before .key-allowed .ensures) ∙ not-false _ (c .before .before .before .before .before .if2 .left)) (c .before .before .before .before .if3 .left) (c .before .before .before .before .before .before .before .before .before .before .before .args .table .now) (c .before .before .before .before .before .before .before .before .before .before .before .args .table .now) _ _ _ (key-behind _ _ _ _ (tagged.key-any (isArrayTag (c .before .before .before .before .before .before .before .before .before .before .before .args .container)) (getD (c .before .before .before .before .before .before .before .before .before .before .before .args .source .now) (c .before .before .before .before .before .before .before .before .before .before .before .args .cursor .at) 0) (sym (c .before .before .before .before .before .before .key-allowed .ensures) ∙ not-false _ (c .before .before .before .before .before .if2 .left))) (c .before .before .before .scalar .ensures .scans)) (c .before .enum-told .given .1) (c .refused .ensures)
+returns-4 c = (λ earlier e. steps.key-not _ _ _ _ earlier _ (c .before .before .before .before .before .before .before .before .if1 .left) refl (sym (c .before .before .before .before .before .before .key-allowed .ensures) ∙ not-false _ (c .before .before .before .before .before .if2 .left)) (c .before .before .before .before .if3 .left) (c .before .before .before .before .before .before .before .before .before .before .before .before .args .table .now) (c .before .before .before .before .before .before .before .before .before .before .before .before .args .table .now) _ _ _ (key-behind _ _ _ _ (tagged.key-any (isArrayTag (c .before .before .before .before .before .before .before .before .before .before .before .before .args .container)) (getD (c .before .before .before .before .before .before .before .before .before .before .before .before .args .source .now) (c .before .before .before .before .before .before .before .before .before .before .before .before .args .cursor .at) 0) (sym (c .before .before .before .before .before .before .key-allowed .ensures) ∙ not-false _ (c .before .before .before .before .before .if2 .left))) (c .before .before .before .of-key .ensures .scans)) (c .before .enum-told .given .1) (c .refused .ensures), steps.none-more _ _ _ _ _ _ _ _ _ _ _ (refused-is _ _ _ _ (c .refused .ensures) (c .before .enum-told .given .1)) (grows-none _))
 
-cast-t19 : tie.Need-cast-t19
-cast-t19 c = omega (arith, c .before .before .before .before .before .before .before .shared-slice-known2 .given (c .before .before .before .before .before .before .before .before .before .before .before .args .cursor .at))
+cast-t20 : tie.Need-cast-t20
+cast-t20 c = omega (arith, c .before .before .before .before .before .before .before .shared-slice-known2 .given (c .before .before .before .before .before .before .before .before .before .before .before .before .args .cursor .at))
 
 key-seen-requires : tie.Need-key-seen-requires
-key-seen-requires c κs = (omega (arith, c .before .before .before .before .before .before .before .before .before .before .before .before .pre .0 .table, c .before .before .before .before .before .before .before .before .before .before .before .before .pre .0 .node), c .before .before .before .before .before .before .before .before .before .before .before .before .pre .1)
+key-seen-requires c κs = (omega (arith, c .before .before .before .before .before .before .before .before .before .before .before .before .before .before .pre .0 .table, c .before .before .before .before .before .before .before .before .before .before .before .before .before .before .pre .0 .node), c .before .before .before .before .before .before .before .before .before .before .before .before .before .before .pre .1)
 
 same-length : tie.Need-same-length
 same-length c = search needs
 
+same-length-2 : tie.Need-same-length-2
+same-length-2 c = search needs
+
 returns-5 : tie.Need-returns-5
-returns-5 c = λ earlier e. steps.key-twice _ _ _ _ earlier _ (c .before .before .before .before .before .before .before .before .before .before .before .if1 .left) refl (sym (c .before .before .before .before .before .before .before .before .before .key-allowed .ensures) ∙ not-false _ (c .before .before .before .before .before .before .before .before .if2 .left)) (c .before .before .before .before .before .before .before .if3 .left) _ (found-of (key-behind _ _ _ _ (tagged.key-any (isArrayTag (c .before .before .before .before .before .before .before .before .before .before .before .before .before .before .args .container)) (getD (c .before .before .before .before .before .before .before .before .before .before .before .before .before .before .args .source .now) (c .before .before .before .before .before .before .before .before .before .before .before .before .before .before .args .cursor .at) 0) (sym (c .before .before .before .before .before .before .before .before .before .key-allowed .ensures) ∙ not-false _ (c .before .before .before .before .before .before .before .before .if2 .left))) (c .before .before .before .before .before .before .scalar .ensures .scans)) (c .before .before .before .before .scan .given .1)) (e .same _ ∙ sym (c .before .key-seen .ensures _ _ (steps.key-held _ _ _ (c .before .before .before .before .before .before .before .before .before .before .before .before .before .before .args .cursor) earlier _ (c .before .before .before .before .before .before .before .before .before .before .before .if1 .left) refl (sym (c .before .before .before .before .before .before .before .before .before .key-allowed .ensures) ∙ not-false _ (c .before .before .before .before .before .before .before .before .if2 .left)) (c .before .before .before .before .before .before .before .if3 .left) _ (found-of (key-behind _ _ _ _ (tagged.key-any (isArrayTag (c .before .before .before .before .before .before .before .before .before .before .before .before .before .before .args .container)) (getD (c .before .before .before .before .before .before .before .before .before .before .before .before .before .before .args .source .now) (c .before .before .before .before .before .before .before .before .before .before .before .before .before .before .args .cursor .at) 0) (sym (c .before .before .before .before .before .before .before .before .before .key-allowed .ensures) ∙ not-false _ (c .before .before .before .before .before .before .before .before .if2 .left))) (c .before .before .before .before .before .before .scalar .ensures .scans)) (c .before .before .before .before .scan .given .1))) (e .chain) (e .under)) ∙ c .if4 .taken)
+returns-5 c = (λ earlier e. steps.key-twice _ _ _ _ earlier _ (c .before .before .before .before .before .before .before .before .before .before .before .before .before .before .if1 .left) refl (sym (c .before .before .before .before .before .before .before .before .before .before .before .before .key-allowed .ensures) ∙ not-false _ (c .before .before .before .before .before .before .before .before .before .before .before .if2 .left)) (c .before .before .before .before .before .before .before .before .before .before .if3 .left) _ (found-of (key-behind _ _ _ _ (tagged.key-any (isArrayTag (c .before .before .before .before .before .before .before .before .before .before .before .before .before .before .before .before .before .before .args .container)) (getD (c .before .before .before .before .before .before .before .before .before .before .before .before .before .before .before .before .before .before .args .source .now) (c .before .before .before .before .before .before .before .before .before .before .before .before .before .before .before .before .before .before .args .cursor .at) 0) (sym (c .before .before .before .before .before .before .before .before .before .before .before .before .key-allowed .ensures) ∙ not-false _ (c .before .before .before .before .before .before .before .before .before .before .before .if2 .left))) (c .before .before .before .before .before .before .before .before .before .of-key .ensures .scans)) (c .before .before .before .before .before .before .before .scan .given .1)) (e .same _ ∙ sym (c .before .before .before .key-seen .ensures .answer _ _ (steps.key-held _ _ _ (c .before .before .before .before .before .before .before .before .before .before .before .before .before .before .before .before .before .before .args .cursor) earlier _ (c .before .before .before .before .before .before .before .before .before .before .before .before .before .before .if1 .left) refl (sym (c .before .before .before .before .before .before .before .before .before .before .before .before .key-allowed .ensures) ∙ not-false _ (c .before .before .before .before .before .before .before .before .before .before .before .if2 .left)) (c .before .before .before .before .before .before .before .before .before .before .if3 .left) _ (found-of (key-behind _ _ _ _ (tagged.key-any (isArrayTag (c .before .before .before .before .before .before .before .before .before .before .before .before .before .before .before .before .before .before .args .container)) (getD (c .before .before .before .before .before .before .before .before .before .before .before .before .before .before .before .before .before .before .args .source .now) (c .before .before .before .before .before .before .before .before .before .before .before .before .before .before .before .before .before .before .args .cursor .at) 0) (sym (c .before .before .before .before .before .before .before .before .before .before .before .before .key-allowed .ensures) ∙ not-false _ (c .before .before .before .before .before .before .before .before .before .before .before .if2 .left))) (c .before .before .before .before .before .before .before .before .before .of-key .ensures .scans)) (c .before .before .before .before .before .before .before .scan .given .1))) (e .chain) (e .known)) ∙ c .if4 .taken), steps.none-more _ _ _ _ _ _ _ _ _ _ _ refl (c .before .before .before .key-seen .ensures .grows))
 
 place-requires : tie.Need-place-requires
 place-requires c κs = search needs
 
-same-length-2 : tie.Need-same-length-2
-same-length-2 c = search needs
+same-length-3 : tie.Need-same-length-3
+same-length-3 c = search needs
+
+same-length-4 : tie.Need-same-length-4
+same-length-4 c = search needs
 
 returns-6 : tie.Need-returns-6
-returns-6 c = λ earlier e. steps.key-good _ _ _ _ earlier _ (c .before .before .before .before .before .before .before .before .before .before .before .before .before .before .before .if1 .left) refl (sym (c .before .before .before .before .before .before .before .before .before .before .before .before .before .key-allowed .ensures) ∙ not-false _ (c .before .before .before .before .before .before .before .before .before .before .before .before .if2 .left)) (c .before .before .before .before .before .before .before .before .before .before .before .if3 .left) _ (found-of (key-behind _ _ _ _ (tagged.key-any (isArrayTag (c .before .before .before .before .before .before .before .before .before .before .before .before .before .before .before .before .before .before .args .container)) (getD (c .before .before .before .before .before .before .before .before .before .before .before .before .before .before .before .before .before .before .args .source .now) (c .before .before .before .before .before .before .before .before .before .before .before .before .before .before .before .before .before .before .args .cursor .at) 0) (sym (c .before .before .before .before .before .before .before .before .before .before .before .before .before .key-allowed .ensures) ∙ not-false _ (c .before .before .before .before .before .before .before .before .before .before .before .before .if2 .left))) (c .before .before .before .before .before .before .before .before .before .before .scalar .ensures .scans)) (c .before .before .before .before .before .before .before .before .scan .given .1)) _ _ _ (c .before .before .before .before .before .before .before .before .before .before .before .before .before .before .before .before .before .before .pre .0) (e .same _ ∙ sym (c .before .before .before .before .before .key-seen .ensures _ _ (steps.key-held _ _ _ (c .before .before .before .before .before .before .before .before .before .before .before .before .before .before .before .before .before .before .args .cursor) earlier _ (c .before .before .before .before .before .before .before .before .before .before .before .before .before .before .before .if1 .left) refl (sym (c .before .before .before .before .before .before .before .before .before .before .before .before .before .key-allowed .ensures) ∙ not-false _ (c .before .before .before .before .before .before .before .before .before .before .before .before .if2 .left)) (c .before .before .before .before .before .before .before .before .before .before .before .if3 .left) _ (found-of (key-behind _ _ _ _ (tagged.key-any (isArrayTag (c .before .before .before .before .before .before .before .before .before .before .before .before .before .before .before .before .before .before .args .container)) (getD (c .before .before .before .before .before .before .before .before .before .before .before .before .before .before .before .before .before .before .args .source .now) (c .before .before .before .before .before .before .before .before .before .before .before .before .before .before .before .before .before .before .args .cursor .at) 0) (sym (c .before .before .before .before .before .before .before .before .before .before .before .before .before .key-allowed .ensures) ∙ not-false _ (c .before .before .before .before .before .before .before .before .before .before .before .before .if2 .left))) (c .before .before .before .before .before .before .before .before .before .before .scalar .ensures .scans)) (c .before .before .before .before .before .before .before .before .scan .given .1))) (e .chain) (e .under)) ∙ c .before .before .before .before .if4 .left) (c .before .before .place .ensures)
+returns-6 c = (λ earlier e. steps.key-good _ _ _ _ earlier _ (c .before .before .before .before .before .before .before .before .before .before .before .before .before .before .before .before .before .before .if1 .left) refl (sym (c .before .before .before .before .before .before .before .before .before .before .before .before .before .before .before .before .key-allowed .ensures) ∙ not-false _ (c .before .before .before .before .before .before .before .before .before .before .before .before .before .before .before .if2 .left)) (c .before .before .before .before .before .before .before .before .before .before .before .before .before .before .if3 .left) _ (found-of (key-behind _ _ _ _ (tagged.key-any (isArrayTag (c .before .before .before .before .before .before .before .before .before .before .before .before .before .before .before .before .before .before .before .before .before .before .args .container)) (getD (c .before .before .before .before .before .before .before .before .before .before .before .before .before .before .before .before .before .before .before .before .before .before .args .source .now) (c .before .before .before .before .before .before .before .before .before .before .before .before .before .before .before .before .before .before .before .before .before .before .args .cursor .at) 0) (sym (c .before .before .before .before .before .before .before .before .before .before .before .before .before .before .before .before .key-allowed .ensures) ∙ not-false _ (c .before .before .before .before .before .before .before .before .before .before .before .before .before .before .before .if2 .left))) (c .before .before .before .before .before .before .before .before .before .before .before .before .before .of-key .ensures .scans)) (c .before .before .before .before .before .before .before .before .before .before .before .scan .given .1)) _ _ _ (c .before .before .before .before .before .before .before .before .before .before .before .before .before .before .before .before .before .before .before .before .before .before .pre .0) (e .same _ ∙ sym (c .before .before .before .before .before .before .before .key-seen .ensures .answer _ _ (steps.key-held _ _ _ (c .before .before .before .before .before .before .before .before .before .before .before .before .before .before .before .before .before .before .before .before .before .before .args .cursor) earlier _ (c .before .before .before .before .before .before .before .before .before .before .before .before .before .before .before .before .before .before .if1 .left) refl (sym (c .before .before .before .before .before .before .before .before .before .before .before .before .before .before .before .before .key-allowed .ensures) ∙ not-false _ (c .before .before .before .before .before .before .before .before .before .before .before .before .before .before .before .if2 .left)) (c .before .before .before .before .before .before .before .before .before .before .before .before .before .before .if3 .left) _ (found-of (key-behind _ _ _ _ (tagged.key-any (isArrayTag (c .before .before .before .before .before .before .before .before .before .before .before .before .before .before .before .before .before .before .before .before .before .before .args .container)) (getD (c .before .before .before .before .before .before .before .before .before .before .before .before .before .before .before .before .before .before .before .before .before .before .args .source .now) (c .before .before .before .before .before .before .before .before .before .before .before .before .before .before .before .before .before .before .before .before .before .before .args .cursor .at) 0) (sym (c .before .before .before .before .before .before .before .before .before .before .before .before .before .before .before .before .key-allowed .ensures) ∙ not-false _ (c .before .before .before .before .before .before .before .before .before .before .before .before .before .before .before .if2 .left))) (c .before .before .before .before .before .before .before .before .before .before .before .before .before .of-key .ensures .scans)) (c .before .before .before .before .before .before .before .before .before .before .before .scan .given .1))) (e .chain) (e .known)) ∙ c .before .before .before .before .if4 .left) (c .before .before .place .ensures), steps.one-more _ _ _ _ _ _ _ _ _ _ _ _ _ _ (c .before .before .before .before .before .before .before .before .before .before .before .before .before .before .before .before .before .before .before .before .before .before .pre .0) (c .before .before .before .before .before .before .before .before .before .before .before .before .before .before .if3 .left) (c .before .before .before .before .before .before .before .key-seen .ensures) (c .before .before .place .ensures))
 
 pub read-key-spec : {M : Type 1} → statement M
 read-key-spec =
@@ -75,16 +83,18 @@ read-key-spec =
     key-allowed-requires
     returns-2
     returns-3
-    add-scalar
-    scalar-requires
+    add-of-key
+    of-key-requires
     enum-known-scan
     enum-told
     refused-requires
     returns-4
-    cast-t19
+    cast-t20
     key-seen-requires
     same-length
+    same-length-2
     returns-5
     place-requires
-    same-length-2
+    same-length-3
+    same-length-4
     returns-6)

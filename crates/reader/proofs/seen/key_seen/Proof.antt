@@ -1,31 +1,59 @@
 -- `reader::seen::key_seen` meets its contract. Assumes nothing.
 use borrow.Author.Needs.{needs}
+use borrow.Author.Tests.{not-true}
 use Rattle.reader.proofs.KeyLaws as keys
 use Rattle.reader.proofs.seen.key_seen.Statement.{statement}
 use Rattle.reader.proofs.seen.key_seen.Tie as tie
 
-enum-told : tie.Need-enum-told
-enum-told c = search needs
+rises-requires : tie.Need-rises-requires
+rises-requires c κs = search needs
 
 returns : tie.Need-returns
-returns c = λ j ks h l u. keys.new-keys j _ _ h (c .before .before .if1 .taken) (keys.above-nothing _ _ (c .enum-told .given .1)) l u
-
-enum-known-highest : tie.Need-enum-known-highest
-enum-known-highest c = search needs
-
-rank-requires : tie.Need-rank-requires
-rank-requires c κs = search needs
-
-returns-2 : tie.Need-returns-2
-returns-2 c = λ j ks h l u. keys.new-keys j _ _ h (c .before .before .before .before .before .if1 .taken) (keys.above-top _ _ _ _ (c .before .before .before .highest .given .1) (c .before .rank .ensures) (c .if2 .taken)) l u
+returns c = keys.tested-rising _ _ _ _ _ _ _ _ (c .before .rises .ensures) (c .if1 .taken)
 
 walk-requires : tie.Need-walk-requires
 walk-requires c κs = search needs
 
+returns-2 : tie.Need-returns-2
+returns-2 c = keys.tested-bare _ _ _ _ _ _ _ _ (c .before .before .before .rises .ensures) (c .before .before .if1 .left) (c .before .if2 .taken) _ (c .walk .ensures)
+
+mark-earlier-requires : tie.Need-mark-earlier-requires
+mark-earlier-requires c κs = search needs
+
+hash-requires : tie.Need-hash-requires
+hash-requires c κs = search needs
+
+enter-requires : tie.Need-enter-requires
+enter-requires c κs = search needs
+
+same-length : tie.Need-same-length
+same-length c = search needs
+
 returns-3 : tie.Need-returns-3
-returns-3 c = λ j ks h l u. c .walk .ensures j ks h l
+returns-3 c = keys.tested-new _ _ _ _ _ _ _ _ (c .before .before .before .before .before .before .before .before .before .before .before .before .rises .ensures) (c .before .before .before .before .before .before .before .before .before .before .before .if1 .left) _ (c .before .before .before .before .before .before .before .before .mark-earlier .ensures) _ _ (c .before .before .before .before .before .hash .ensures) _ (c .before .before .before .enter .ensures) (not-true _ (c .if3 .taken))
+
+walk-requires-2 : tie.Need-walk-requires-2
+walk-requires-2 c κs = search needs
+
+same-length-2 : tie.Need-same-length-2
+same-length-2 c = search needs
+
+returns-4 : tie.Need-returns-4
+returns-4 c = keys.tested-walk _ _ _ _ _ _ _ _ (c .before .before .before .before .before .before .before .before .before .before .before .before .before .rises .ensures) (c .before .before .before .before .before .before .before .before .before .before .before .before .if1 .left) _ (c .before .before .before .before .before .before .before .before .before .mark-earlier .ensures) _ _ (c .before .before .before .before .before .before .hash .ensures) _ (c .before .before .before .before .enter .ensures) _ (c .walk2 .ensures)
 
 pub key-seen-spec : {M : Type 1} → statement M
 key-seen-spec =
     tie.close
-    (tie.spec enum-told returns enum-known-highest rank-requires returns-2 walk-requires returns-3)
+    (tie.spec
+    rises-requires
+    returns
+    walk-requires
+    returns-2
+    mark-earlier-requires
+    hash-requires
+    enter-requires
+    same-length
+    returns-3
+    walk-requires-2
+    same-length-2
+    returns-4)

@@ -11,6 +11,7 @@ use Rattle.bytes_at.proofs.BytesAt.{byte-there}
 use Rattle.scanner.proofs.Numbers.{found-of}
 use Rattle.reader.specs.declared.cursor.Cursor.{Cursor}
 use Rattle.reader.specs.Steps.{Meets, MeetsPairs, MeetsKey, GateAt}
+use Rattle.marks.proofs.Marking.{grows-none, grows-on}
 use Rattle.reader.proofs.Tagged as tagged
 use Rattle.reader.proofs.Leaves as leaves
 use Rattle.reader.proofs.ContainerSteps as containers
@@ -30,62 +31,62 @@ use Rattle.reader.proofs.cursor.check_tag.Reads as check-tag-reads
 use Rattle.reader.proofs.cursor.refused.Reads as refused-reads
 use Rattle.reader.proofs.head.head.Reads as head-reads
 use Rattle.reader.proofs.key.read_key.Reads as read-key-reads
+use Rattle.reader.proofs.leaf.read_common.Reads as read-common-reads
 use Rattle.reader.proofs.leaf.read_reference.Reads as read-reference-reads
-use Rattle.reader.proofs.leaf.read_scalar.Reads as read-scalar-reads
 use Rattle.reader.proofs.seen.key_at.Reads as key-at-reads
-use Rattle.reader.proofs.seen.raised.Reads as raised-reads
+use Rattle.reader.proofs.seen.next.Reads as next-reads
 use Rattle.reader.proofs.table.enter.Reads as enter-reads
 use Rattle.reader.proofs.table.put_end.Reads as put-end-reads
 use Rattle.bytes_at.proofs.byte_is.Reads as byte-is-reads
 use Rattle.reader.proofs.value.+read_container+read_pairs+read_value.{statement}
 use Rattle.reader.proofs.value.+read_container+read_pairs+read_value.Tie.{close}
 
-abbrev μ-read-container : Measures 2 read-container-kinds.ps ℕ
-μ-read-container κs a = 3 * (length (a .0 .now) - a .1 .1 .1 .0 .at)
+abbrev μ-read-container : Measures 3 read-container-kinds.ps ℕ
+μ-read-container κs a = 3 * (length (a .0 .now) - a .1 .1 .1 .1 .0 .at)
 
-abbrev μ-read-pairs : Measures 2 read-pairs-kinds.ps ℕ
-μ-read-pairs κs a = 3 * (length (a .0 .now) - a .1 .1 .1 .1 .0 .at) + 2
+abbrev μ-read-pairs : Measures 3 read-pairs-kinds.ps ℕ
+μ-read-pairs κs a = 3 * (length (a .0 .now) - a .1 .1 .1 .1 .1 .0 .at) + 2
 
-abbrev μ-read-value : Measures 2 read-value-kinds.ps ℕ
-μ-read-value κs a = 3 * (length (a .0 .now) - a .1 .1 .1 .0 .at) + 1
+abbrev μ-read-value : Measures 3 read-value-kinds.ps ℕ
+μ-read-value κs a = 3 * (length (a .0 .now) - a .1 .1 .1 .1 .0 .at) + 1
 
-abbrev read-container-at : ℕ → In 2 read-container-kinds.ps
+abbrev read-container-at : ℕ → In 3 read-container-kinds.ps
 read-container-at t =
     and
-    2
+    3
     read-container-kinds.ps
-    (is 2 read-container-kinds.ps μ-read-container t)
+    (is 3 read-container-kinds.ps μ-read-container t)
     read-container.Pre
 
-abbrev read-container-below : ℕ → In 2 read-container-kinds.ps
+abbrev read-container-below : ℕ → In 3 read-container-kinds.ps
 read-container-below t =
     and
-    2
+    3
     read-container-kinds.ps
-    (falls 2 read-container-kinds.ps _<_ μ-read-container t)
+    (falls 3 read-container-kinds.ps _<_ μ-read-container t)
     read-container.Pre
 
-abbrev read-pairs-at : ℕ → In 2 read-pairs-kinds.ps
+abbrev read-pairs-at : ℕ → In 3 read-pairs-kinds.ps
 read-pairs-at t =
-    and 2 read-pairs-kinds.ps (is 2 read-pairs-kinds.ps μ-read-pairs t) read-pairs.Pre
+    and 3 read-pairs-kinds.ps (is 3 read-pairs-kinds.ps μ-read-pairs t) read-pairs.Pre
 
-abbrev read-pairs-below : ℕ → In 2 read-pairs-kinds.ps
+abbrev read-pairs-below : ℕ → In 3 read-pairs-kinds.ps
 read-pairs-below t =
-    and 2 read-pairs-kinds.ps (falls 2 read-pairs-kinds.ps _<_ μ-read-pairs t) read-pairs.Pre
+    and 3 read-pairs-kinds.ps (falls 3 read-pairs-kinds.ps _<_ μ-read-pairs t) read-pairs.Pre
 
-abbrev read-value-at : ℕ → In 2 read-value-kinds.ps
+abbrev read-value-at : ℕ → In 3 read-value-kinds.ps
 read-value-at t =
-    and 2 read-value-kinds.ps (is 2 read-value-kinds.ps μ-read-value t) read-value.Pre
+    and 3 read-value-kinds.ps (is 3 read-value-kinds.ps μ-read-value t) read-value.Pre
 
-abbrev read-value-below : ℕ → In 2 read-value-kinds.ps
+abbrev read-value-below : ℕ → In 3 read-value-kinds.ps
 read-value-below t =
-    and 2 read-value-kinds.ps (falls 2 read-value-kinds.ps _<_ μ-read-value t) read-value.Pre
+    and 3 read-value-kinds.ps (falls 3 read-value-kinds.ps _<_ μ-read-value t) read-value.Pre
 
 abbrev read-pairs-Inv-loop : read-pairs-lts.InvT-loop
-read-pairs-Inv-loop source table₀ capacity container count first cursor₀ more₀ highest₀ table cursor more highest = pairs.Run source table₀ table capacity container count cursor₀ cursor more highest
+read-pairs-Inv-loop source table₀ marks₀ capacity container count first cursor₀ more₀ seen₀ table marks cursor more seen = pairs.Run source table₀ table marks₀ marks capacity container count cursor₀ cursor more seen
 
 abbrev read-pairs-μ-loop : read-pairs-lts.MeasureT-loop
-read-pairs-μ-loop source table₀ capacity container count first cursor₀ more₀ highest₀ table cursor more highest = more
+read-pairs-μ-loop source table₀ marks₀ capacity container count first cursor₀ more₀ seen₀ table marks cursor more seen = more
 
 pub +read-container+read-pairs+read-value-spec : {M : Type 1} → statement M
 +read-container+read-pairs+read-value-spec =
@@ -105,31 +106,34 @@ pub +read-container+read-pairs+read-value-spec : {M : Type 1} → statement M
     )
     (read-container-at t)
     read-container.Post
-    (λ c κs. let f = c .before .before .pre .1 .0 in let b = c .before .before .pre .1 .1 in (b .0, b .3))
+    (λ c κs. let f = c .before .before .before .pre .1 .0 in let b = c .before .before .before .pre .1 .1 in (b .0, b .3))
     (λ c. search needs)
     (λ c. search needs)
     (λ c κs. search needs)
-    (λ c. containers.head-not _ _ _ _ (c .before .before .before .before .before .before .pre .1 .1 .3) (c .before .before .before .before .before .before .args .table .now) (c .before .before .before .before .before .before .args .table .now) _ _ _ (c .before .before .before .head .ensures) (c .before .enum-told .given .1) (c .refused .ensures))
-    (λ c κs. let f = c .before .before .before .before .before .before .before .pre .1 .0 in let b = c .before .before .before .before .before .before .before .pre .1 .1 in (omega arith, f .ordinal, b .2))
-    (λ c κs. let f = c .before .before .before .before .before .before .before .before .before .before .before .pre .1 .0 in let b = c .before .before .before .before .before .before .before .before .before .before .before .pre .1 .1 in let h = (found-of (c .before .before .before .before .before .before .before .before .head .ensures) (c .before .before .before .before .before .before .scan .given .1)) in let e = (c .before .before .before .enter .ensures) .cursor in (omega (arith, ap (λ (i : Cursor). i .at) e, h .on, h .inside), containers.first-fit _ _ _ _ _ _ _ e (h .inside) f (b .1) (c .before .before .before .enter .kept .0)))
+    (λ c. (containers.head-not _ _ _ _ (c .before .before .before .before .before .before .before .pre .1 .1 .3) (c .before .before .before .before .before .before .before .args .table .now) (c .before .before .before .before .before .before .before .args .table .now) _ _ _ (c .before .before .before .head .ensures) (c .before .enum-told .given .1) (c .refused .ensures), grows-none _))
+    (λ c κs. let f = c .before .before .before .before .before .before .before .before .pre .1 .0 in let b = c .before .before .before .before .before .before .before .before .pre .1 .1 in (omega arith, f .ordinal, b .2))
+    (λ c κs. let f = c .before .before .before .before .before .before .before .before .before .before .before .before .before .pre .1 .0 in let b = c .before .before .before .before .before .before .before .before .before .before .before .before .before .pre .1 .1 in let h = (found-of (c .before .before .before .before .before .before .before .before .before .head .ensures) (c .before .before .before .before .before .before .before .scan .given .1)) in let e = (c .before .before .before .before .enter .ensures) .cursor in (omega (arith, ap (λ (i : Cursor). i .at) e, h .on, h .inside), containers.first-fit _ _ _ _ _ _ _ e (h .inside) f (b .1) (c .before .before .before .before .enter .kept .0)))
     (λ c. search needs)
     (λ c. search needs)
     (λ c. search needs)
-    (λ c. leaves.meets-bad _ _ _ _ _ _ _ _ _ (c .enum-told2 .given .1) (containers.pairs-refused _ _ _ _ (c .before .before .before .before .before .before .before .before .before .before .before .before .before .before .before .before .pre .1 .1 .3) _ (found-of (c .before .before .before .before .before .before .before .before .before .before .before .before .before .head .ensures) (c .before .before .before .before .before .before .before .before .before .before .before .scan .given .1)) _ ((c .before .before .before .before .before .before .before .before .enter .ensures) .cursor) _ _ (subst (MeetsPairs _ _ _ _ _ _) (c .enum-told2 .given .1) (c .before .before .before .before .read-pairs .ensures))))
+    (λ c. search needs)
+    (λ c. (leaves.meets-bad _ _ _ _ _ _ _ _ _ (c .enum-told2 .given .1) (containers.pairs-refused _ _ _ _ (c .before .before .before .before .before .before .before .before .before .before .before .before .before .before .before .before .before .before .before .before .pre .1 .1 .3) _ (found-of (c .before .before .before .before .before .before .before .before .before .before .before .before .before .before .before .before .head .ensures) (c .before .before .before .before .before .before .before .before .before .before .before .before .before .before .scan .given .1)) _ ((c .before .before .before .before .before .before .before .before .before .before .before .enter .ensures) .cursor) _ _ (subst (MeetsPairs _ _ _ _ _ _) (c .enum-told2 .given .1) (c .before .before .before .before .before .before .read-pairs .ensures .0))), c .before .before .before .before .before .before .read-pairs .ensures .1))
     (λ c κs. search needs)
     (λ c. search needs)
-    (λ c. containers.brace-missing _ _ _ _ (c .before .before .before .before .before .before .before .before .before .before .before .before .before .before .before .before .before .before .before .pre .1 .1 .3) _ (found-of (c .before .before .before .before .before .before .before .before .before .before .before .before .before .before .before .before .head .ensures) (c .before .before .before .before .before .before .before .before .before .before .before .before .before .before .scan .given .1)) (c .before .before .before .before .before .before .before .before .before .before .before .before .before .before .before .before .before .before .before .args .table .now) _ _ (c .before .before .before .before .before .before .before .before .before .before .before .before .before .before .before .before .before .before .before .args .table .now) (c .before .before .before .before .before .before .before .before .before .before .before .before .before .before .before .before .before .before .before .pre .1 .0) (c .before .before .before .before .before .before .before .before .before .before .before .before .before .before .before .before .before .before .before .pre .1 .1 .1) _ _ (c .before .before .before .before .before .before .before .before .before .before .before .enter .ensures) (subst (MeetsPairs _ _ _ _ _ _) (c .before .before .before .step .given .1) (c .before .before .before .before .before .before .before .read-pairs .ensures)) (sym (c .before .byte-is .ensures) ∙ not-true _ (c .if1 .taken)))
-    (λ c κs. let f = c .before .before .before .before .before .before .before .before .before .before .before .before .before .before .before .before .before .before .before .before .pre .1 .0 in let b = c .before .before .before .before .before .before .before .before .before .before .before .before .before .before .before .before .before .before .before .before .pre .1 .1 in omega arith)
-    (λ c. let g = c .before .before .before .before .before .before .before .before .before .before .before .before .before .before .before .before .before .before .before .before .before .before .before .good .0 in omega (arith, byte-there _ _ (byte "}") (lit< tt) (sym (c .before .before .before .before .before .byte-is .ensures) ∙ not-false _ (c .before .before .before .before .if1 .left))))
     (λ c. search needs)
-    (λ c. containers.container-good _ _ _ _ (c .before .before .before .before .before .before .before .before .before .before .before .before .before .before .before .before .before .before .before .before .before .before .before .pre .1 .1 .3) _ (found-of (c .before .before .before .before .before .before .before .before .before .before .before .before .before .before .before .before .before .before .before .before .head .ensures) (c .before .before .before .before .before .before .before .before .before .before .before .before .before .before .before .before .before .before .scan .given .1)) (c .before .before .before .before .before .before .before .before .before .before .before .before .before .before .before .before .before .before .before .before .before .before .before .args .table .now) _ _ _ (c .before .before .before .before .before .before .before .before .before .before .before .before .before .before .before .before .before .before .before .before .before .before .before .pre .1 .0) (c .before .before .before .before .before .before .before .before .before .before .before .before .before .before .before .before .before .before .before .before .before .before .before .pre .1 .1 .1) _ _ (c .before .before .before .before .before .before .before .before .before .before .before .before .before .before .before .enter .ensures) (subst (MeetsPairs _ _ _ _ _ _) (c .before .before .before .before .before .before .before .step .given .1) (c .before .before .before .before .before .before .before .before .before .before .before .read-pairs .ensures)) (sym (c .before .before .before .before .before .byte-is .ensures) ∙ not-false _ (c .before .before .before .before .if1 .left)) (c .before .before .before .before .before .before .before .before .before .before .before .read-pairs .kept .1 .0) (c .before .before .put-end .ensures)))
+    (λ c. (containers.brace-missing _ _ _ _ (c .before .before .before .before .before .before .before .before .before .before .before .before .before .before .before .before .before .before .before .before .before .before .before .pre .1 .1 .3) _ (found-of (c .before .before .before .before .before .before .before .before .before .before .before .before .before .before .before .before .before .before .before .head .ensures) (c .before .before .before .before .before .before .before .before .before .before .before .before .before .before .before .before .before .scan .given .1)) (c .before .before .before .before .before .before .before .before .before .before .before .before .before .before .before .before .before .before .before .before .before .before .before .args .table .now) _ _ (c .before .before .before .before .before .before .before .before .before .before .before .before .before .before .before .before .before .before .before .before .before .before .before .args .table .now) (c .before .before .before .before .before .before .before .before .before .before .before .before .before .before .before .before .before .before .before .before .before .before .before .pre .1 .0) (c .before .before .before .before .before .before .before .before .before .before .before .before .before .before .before .before .before .before .before .before .before .before .before .pre .1 .1 .1) _ _ (c .before .before .before .before .before .before .before .before .before .before .before .before .before .before .enter .ensures) (subst (MeetsPairs _ _ _ _ _ _) (c .before .before .before .step .given .1) (c .before .before .before .before .before .before .before .before .before .read-pairs .ensures .0)) (sym (c .before .byte-is .ensures) ∙ not-true _ (c .if1 .taken)), c .before .before .before .before .before .before .before .before .before .read-pairs .ensures .1))
+    (λ c κs. let f = c .before .before .before .before .before .before .before .before .before .before .before .before .before .before .before .before .before .before .before .before .before .before .before .before .pre .1 .0 in let b = c .before .before .before .before .before .before .before .before .before .before .before .before .before .before .before .before .before .before .before .before .before .before .before .before .pre .1 .1 in omega arith)
+    (λ c. let g = c .before .before .before .before .before .before .before .before .before .before .before .before .before .before .before .before .before .before .before .before .before .before .before .before .before .before .before .good .0 in omega (arith, byte-there _ _ (byte "}") (lit< tt) (sym (c .before .before .before .before .before .byte-is .ensures) ∙ not-false _ (c .before .before .before .before .if1 .left))))
+    (λ c. search needs)
+    (λ c. search needs)
+    (λ c. (containers.container-good _ _ _ _ (c .before .before .before .before .before .before .before .before .before .before .before .before .before .before .before .before .before .before .before .before .before .before .before .before .before .before .before .pre .1 .1 .3) _ (found-of (c .before .before .before .before .before .before .before .before .before .before .before .before .before .before .before .before .before .before .before .before .before .before .before .head .ensures) (c .before .before .before .before .before .before .before .before .before .before .before .before .before .before .before .before .before .before .before .before .before .scan .given .1)) (c .before .before .before .before .before .before .before .before .before .before .before .before .before .before .before .before .before .before .before .before .before .before .before .before .before .before .before .args .table .now) _ _ _ (c .before .before .before .before .before .before .before .before .before .before .before .before .before .before .before .before .before .before .before .before .before .before .before .before .before .before .before .pre .1 .0) (c .before .before .before .before .before .before .before .before .before .before .before .before .before .before .before .before .before .before .before .before .before .before .before .before .before .before .before .pre .1 .1 .1) _ _ (c .before .before .before .before .before .before .before .before .before .before .before .before .before .before .before .before .before .before .enter .ensures) (subst (MeetsPairs _ _ _ _ _ _) (c .before .before .before .before .before .before .before .step .given .1) (c .before .before .before .before .before .before .before .before .before .before .before .before .before .read-pairs .ensures .0)) (sym (c .before .before .before .before .before .byte-is .ensures) ∙ not-false _ (c .before .before .before .before .if1 .left)) (c .before .before .before .before .before .before .before .before .before .before .before .before .before .read-pairs .kept .1 .0) (c .before .before .put-end .ensures), c .before .before .before .before .before .before .before .before .before .before .before .before .before .read-pairs .ensures .1)))
     (λ t. read-pairs-lts.spec (
       read-key-reads.Asked,
       read-key-reads.Learnt,
       key-at-reads.Asked,
       key-at-reads.Learnt,
-      raised-reads.Asked,
-      raised-reads.Learnt,
+      next-reads.Asked,
+      next-reads.Learnt,
       read-value-below t,
       read-value.Post,
     )
@@ -137,24 +141,27 @@ pub +read-container+read-pairs+read-value-spec : {M : Type 1} → statement M
     read-pairs.Post
     read-pairs-Inv-loop
     read-pairs-μ-loop
-    (λ c. pairs.run-start _ _ _ _ _ _ (c .before .before .pre .1))
-    (λ c κs. ((c .before .before .loop .inv) .fit, pairs.run-walk (c .before .before .loop .inv)))
+    (λ c. pairs.run-start _ _ _ _ _ _ _ (c .before .before .before .pre .1))
+    (λ c κs. ((c .before .before .before .loop .inv) .fit, pairs.run-walk (c .before .before .before .loop .inv)))
     (λ c. search needs)
     (λ c. search needs)
-    (λ c. search needs)
-    (λ c. pairs.pairs-bad _ _ _ _ _ _ _ _ _ (c .enum-told .given .1) (pairs.run-key-bad (c .before .before .before .before .before .before .before .loop .inv) (c .before .before .before .before .before .before .loop-test .taken) _ _ (subst (MeetsKey _ _ _ _ _ _) (c .enum-told .given .1) (c .before .before .before .before .read-key .ensures ((c .before .before .before .before .before .before .before .loop .inv) .earlier) ((c .before .before .before .before .before .before .before .loop .inv) .keys)))))
-    (λ c κs. let k = (subst (MeetsKey _ _ _ _ _ _) (c .before .before .key .given .1) (c .before .before .before .before .before .before .read-key .ensures ((c .before .before .before .before .before .before .before .before .before .loop .inv) .earlier) ((c .before .before .before .before .before .before .before .before .before .loop .inv) .keys))) in let f = (c .before .before .before .before .before .before .before .before .before .loop .inv) .fit in omega (arith, k .fits, k .node, c .before .before .before .before .before .before .read-key .kept .1 .0))
+    (λ c. omega (arith, (c .before .before .before .before .before .before .before .before .before .before .loop .inv) .long, c .before .before .before .before .before .before .read-key .kept .1 .0))
+    (λ c. omega (arith, (c .before .before .before .before .before .before .before .before .before .before .loop .inv) .marks-long, c .before .before .before .before .before .before .read-key .kept .1 .1 .0))
+    (λ c. (pairs.pairs-bad _ _ _ _ _ _ _ _ _ (c .enum-told .given .1) (pairs.run-key-bad (c .before .before .before .before .before .before .before .before .before .before .loop .inv) (c .before .before .before .before .before .before .before .before .before .loop-test .taken) _ _ (subst (MeetsKey _ _ _ _ _ _) (c .enum-told .given .1) (c .before .before .before .before .before .before .read-key .ensures .0 ((c .before .before .before .before .before .before .before .before .before .before .loop .inv) .earlier) ((c .before .before .before .before .before .before .before .before .before .before .loop .inv) .keys)))), grows-on ((c .before .before .before .before .before .before .before .before .before .before .loop .inv) .grown) (c .before .before .before .before .before .before .read-key .ensures .1 .grows)))
+    (λ c κs. let k = (subst (MeetsKey _ _ _ _ _ _) (c .before .before .key .given .1) (c .before .before .before .before .before .before .before .before .read-key .ensures .0 ((c .before .before .before .before .before .before .before .before .before .before .before .before .loop .inv) .earlier) ((c .before .before .before .before .before .before .before .before .before .before .before .before .loop .inv) .keys))) in let f = (c .before .before .before .before .before .before .before .before .before .before .before .before .loop .inv) .fit in omega (arith, k .fits, k .node, c .before .before .before .before .before .before .before .before .read-key .kept .1 .0))
     (λ c κs. search needs)
-    (λ c κs. let k = (subst (MeetsKey _ _ _ _ _ _) (c .before .before .before .before .before .key .given .1) (c .before .before .before .before .before .before .before .before .before .read-key .ensures ((c .before .before .before .before .before .before .before .before .before .before .before .before .loop .inv) .earlier) ((c .before .before .before .before .before .before .before .before .before .before .before .before .loop .inv) .keys))) in let o = pairs.run-on (c .before .before .before .before .before .before .before .before .before .before .before .before .loop .inv) in (omega (arith, k .on, k .inside), pairs.mid-fit (c .before .before .before .before .before .before .before .before .before .before .before .before .loop .inv) (c .before .before .before .before .before .before .before .before .before .before .before .loop-test .taken) _ _ k (c .before .before .before .before .before .before .before .before .before .read-key .kept .1 .0)))
+    (λ c κs. let k = (subst (MeetsKey _ _ _ _ _ _) (c .before .before .before .before .before .before .key .given .1) (c .before .before .before .before .before .before .before .before .before .before .before .before .read-key .ensures .0 ((c .before .before .before .before .before .before .before .before .before .before .before .before .before .before .before .before .loop .inv) .earlier) ((c .before .before .before .before .before .before .before .before .before .before .before .before .before .before .before .before .loop .inv) .keys))) in let o = pairs.run-on (c .before .before .before .before .before .before .before .before .before .before .before .before .before .before .before .before .loop .inv) in (omega (arith, k .on, k .inside), pairs.mid-fit (c .before .before .before .before .before .before .before .before .before .before .before .before .before .before .before .before .loop .inv) (c .before .before .before .before .before .before .before .before .before .before .before .before .before .before .before .loop-test .taken) _ _ k (c .before .before .before .before .before .before .before .before .before .before .before .before .read-key .kept .1 .0)))
     (λ c. search needs)
     (λ c. search needs)
+    (λ c. omega (arith, (c .before .before .before .before .before .before .before .before .before .before .before .before .before .before .before .before .before .before .before .before .before .before .before .before .loop .inv) .long, c .before .before .before .before .before .before .before .before .before .before .before .before .before .before .before .before .before .before .before .before .read-key .kept .1 .0, c .before .before .before .before .before .before .before .read-value .kept .1 .0))
+    (λ c. omega (arith, (c .before .before .before .before .before .before .before .before .before .before .before .before .before .before .before .before .before .before .before .before .before .before .before .before .loop .inv) .marks-long, c .before .before .before .before .before .before .before .before .before .before .before .before .before .before .before .before .before .before .before .before .read-key .kept .1 .1 .0, c .before .before .before .before .before .before .before .read-value .kept .1 .1 .0))
+    (λ c. (pairs.run-value-bad (c .before .before .before .before .before .before .before .before .before .before .before .before .before .before .before .before .before .before .before .before .before .before .before .before .loop .inv) (c .before .before .before .before .before .before .before .before .before .before .before .before .before .before .before .before .before .before .before .before .before .before .before .loop-test .taken) _ _ (subst (MeetsKey _ _ _ _ _ _) (c .before .before .before .before .before .before .before .before .before .before .before .before .before .before .key .given .1) (c .before .before .before .before .before .before .before .before .before .before .before .before .before .before .before .before .before .before .before .before .read-key .ensures .0 ((c .before .before .before .before .before .before .before .before .before .before .before .before .before .before .before .before .before .before .before .before .before .before .before .before .loop .inv) .earlier) ((c .before .before .before .before .before .before .before .before .before .before .before .before .before .before .before .before .before .before .before .before .before .before .before .before .loop .inv) .keys))) _ _ (subst (Meets _ _ _ _ _ _) (c .before .value2 .given .1) (c .before .before .before .before .before .before .before .read-value .ensures .0)), grows-on ((c .before .before .before .before .before .before .before .before .before .before .before .before .before .before .before .before .before .before .before .before .before .before .before .before .loop .inv) .grown) (grows-on (c .before .before .before .before .before .before .before .before .before .before .before .before .before .before .before .before .before .before .before .before .read-key .ensures .1 .grows) (c .before .before .before .before .before .before .before .read-value .ensures .1))))
+    (λ c. omega (arith, c .before .before .before .before .before .before .before .before .before .before .before .before .before .before .before .before .before .before .before .before .before .before .before .loop-test .taken))
+    (λ c. omega (arith, c .before .before .before .before .before .before .before .before .before .before .before .before .before .before .before .before .before .before .before .before .before .before .before .loop-test .taken))
+    (λ c. pairs.run-more (c .before .before .before .before .before .before .before .before .before .before .before .before .before .before .before .before .before .before .before .before .before .before .before .before .loop .inv) (c .before .before .before .before .before .before .before .before .before .before .before .before .before .before .before .before .before .before .before .before .before .before .before .loop-test .taken) _ _ (subst (MeetsKey _ _ _ _ _ _) (c .before .before .before .before .before .before .before .before .before .before .before .before .before .before .key .given .1) (c .before .before .before .before .before .before .before .before .before .before .before .before .before .before .before .before .before .before .before .before .read-key .ensures .0 ((c .before .before .before .before .before .before .before .before .before .before .before .before .before .before .before .before .before .before .before .before .before .before .before .before .loop .inv) .earlier) ((c .before .before .before .before .before .before .before .before .before .before .before .before .before .before .before .before .before .before .before .before .before .before .before .before .loop .inv) .keys))) _ _ (subst (Meets _ _ _ _ _ _) (c .before .value .given .1) (c .before .before .before .before .before .before .before .read-value .ensures .0)) (c .before .before .before .before .before .before .before .before .before .before .before .before .before .before .before .before .before .before .before .before .read-key .kept .1 .0) (c .before .before .before .before .before .before .before .read-value .kept .1 .0) _ _ (c .before .before .before .before .before .before .before .before .before .before .before .before .before .before .before .before .before .before .before .before .read-key .kept .1 .1 .0) (c .before .before .before .before .before .before .before .read-value .kept .1 .1 .0) _ (c .before .before .before .before .before .before .before .before .before .before .before .before .before .before .key .given .1) (c .before .before .before .before .before .before .before .before .before .before .before .before .before .before .before .before .before .before .before .before .read-key .ensures .1) (c .before .before .before .before .before .before .before .read-value .ensures .1) _ _ (c .before .before .before .before .before .before .before .before .before .before .before .key-at .ensures) (c .before .before .before .before .before .before .before .before .before .before .next .ensures))
     (λ c. search needs)
-    (λ c. pairs.pairs-bad _ _ _ _ _ _ _ _ _ (c .enum-told2 .given .1) (pairs.run-value-bad (c .before .before .before .before .before .before .before .before .before .before .before .before .before .before .before .before .before .loop .inv) (c .before .before .before .before .before .before .before .before .before .before .before .before .before .before .before .before .loop-test .taken) _ _ (subst (MeetsKey _ _ _ _ _ _) (c .before .before .before .before .before .before .before .before .before .before .key .given .1) (c .before .before .before .before .before .before .before .before .before .before .before .before .before .before .read-key .ensures ((c .before .before .before .before .before .before .before .before .before .before .before .before .before .before .before .before .before .loop .inv) .earlier) ((c .before .before .before .before .before .before .before .before .before .before .before .before .before .before .before .before .before .loop .inv) .keys))) _ _ (subst (Meets _ _ _ _ _ _) (c .enum-told2 .given .1) (c .before .before .before .before .read-value .ensures))))
     (λ c. search needs)
-    (λ c. search needs)
-    (λ c. pairs.run-more (c .before .before .before .before .before .before .before .before .before .before .before .before .before .before .before .before .before .before .loop .inv) (c .before .before .before .before .before .before .before .before .before .before .before .before .before .before .before .before .before .loop-test .taken) _ _ (subst (MeetsKey _ _ _ _ _ _) (c .before .before .before .before .before .before .before .before .before .before .before .key .given .1) (c .before .before .before .before .before .before .before .before .before .before .before .before .before .before .before .read-key .ensures ((c .before .before .before .before .before .before .before .before .before .before .before .before .before .before .before .before .before .before .loop .inv) .earlier) ((c .before .before .before .before .before .before .before .before .before .before .before .before .before .before .before .before .before .before .loop .inv) .keys))) _ _ (subst (Meets _ _ _ _ _ _) (c .before .value .given .1) (c .before .before .before .before .before .read-value .ensures)) (c .before .before .before .before .before .before .before .before .before .before .before .before .before .before .before .read-key .kept .1 .0) (c .before .before .before .before .before .read-value .kept .1 .0) _ _ (c .before .before .before .before .before .before .before .before .key-at .ensures) (c .before .before .before .before .before .before .before .raised .ensures))
-    (λ c. search needs)
-    (λ c. pairs.run-done (c .before .loop .inv) (omega arith)))
+    (λ c. (pairs.run-done (c .before .loop .inv) (omega arith), (c .before .loop .inv) .grown)))
     λ t. read-value-lts.spec (
       check-tag-reads.Asked,
       check-tag-reads.Learnt,
@@ -162,21 +169,22 @@ pub +read-container+read-pairs+read-value-spec : {M : Type 1} → statement M
       read-container.Post,
       read-reference-reads.Asked,
       read-reference-reads.Learnt,
-      read-scalar-reads.Asked,
-      read-scalar-reads.Learnt,
+      read-common-reads.Asked,
+      read-common-reads.Learnt,
     )
     (read-value-at t)
     read-value.Post
-    (λ c κs. c .before .before .pre .1 .inside)
+    (λ c κs. c .before .before .before .pre .1 .inside)
     (λ c. search needs)
     (λ c. search needs)
-    (λ c κs. let g = (subst (GateAt _ _ _) (c .before .before .before .gate2 .given .1) (c .before .before .before .before .before .check-tag .ensures)) in (omega (arith, c .before .before .before .before .before .before .before .before .pre .0), (c .before .before .before .before .before .before .before .before .pre .1, (g .inside, g .free, g .level, tagged.container-of _ (c .before .match2 .keys1)))))
-    (λ c κs. let g = (subst (GateAt _ _ _) (c .before .before .before .gate2 .given .1) (c .before .before .before .before .before .check-tag .ensures)) in (c .before .before .before .before .before .before .before .before .pre .1, (g .inside, g .free, tagged.reference-of _ (c .before .match2 .keys2))))
-    (λ c κs. let g = (subst (GateAt _ _ _) (c .before .before .before .gate2 .given .1) (c .before .before .before .before .before .check-tag .ensures)) in (c .before .before .before .before .before .before .before .before .pre .1, (g .inside, g .free, tagged.scalar-rest _ (g .known) (c .before .match2 .rest .0 .1) (c .before .match2 .rest .1))))
-    (λ c. subst (GateAt _ _ _) (c .before .gate .given .1) (c .before .before .before .check-tag .ensures))
+    (λ c κs. let g = (subst (GateAt _ _ _) (c .before .before .before .before .gate2 .given .1) (c .before .before .before .before .before .before .check-tag .ensures)) in (omega (arith, c .before .before .before .before .before .before .before .before .before .before .pre .0), (c .before .before .before .before .before .before .before .before .before .before .pre .1, (g .inside, g .free, g .level, tagged.container-of _ (c .before .before .match2 .keys1)))))
+    (λ c κs. let g = (subst (GateAt _ _ _) (c .before .before .before .gate2 .given .1) (c .before .before .before .before .before .check-tag .ensures)) in (c .before .before .before .before .before .before .before .before .before .pre .1, (g .inside, g .free, tagged.reference-of _ (c .before .match2 .keys2))))
+    (λ c κs. let g = (subst (GateAt _ _ _) (c .before .before .before .gate2 .given .1) (c .before .before .before .before .before .check-tag .ensures)) in (c .before .before .before .before .before .before .before .before .before .pre .1, (g .inside, g .free, tagged.scalar-rest _ (g .known) (c .before .match2 .rest .0 .1) (c .before .match2 .rest .1))))
+    (λ c. (subst (GateAt _ _ _) (c .before .gate .given .1) (c .before .before .before .check-tag .ensures), grows-none _))
     (λ c. search needs)
-    (λ c. leaves.meets-by _ _ _ _ _ _ _ (c .before .before .read-container .result) (leaves.gate-open _ _ _ _ (subst (GateAt _ _ _) (c .before .before .before .before .before .before .gate2 .given .1) (c .before .before .before .before .before .before .before .before .check-tag .ensures))) (c .before .before .read-container .ensures))
     (λ c. search needs)
-    (λ c. leaves.meets-by _ _ _ _ _ _ _ (c .before .before .read-reference .result) (leaves.gate-open _ _ _ _ (subst (GateAt _ _ _) (c .before .before .before .before .before .before .gate2 .given .1) (c .before .before .before .before .before .before .before .before .check-tag .ensures))) (c .before .before .read-reference .ensures _))
+    (λ c. (leaves.meets-by _ _ _ _ _ _ _ (c .before .before .before .before .read-container .result) (leaves.gate-open _ _ _ _ (subst (GateAt _ _ _) (c .before .before .before .before .before .before .before .before .before .gate2 .given .1) (c .before .before .before .before .before .before .before .before .before .before .before .check-tag .ensures))) (c .before .before .before .before .read-container .ensures .0), c .before .before .before .before .read-container .ensures .1))
     (λ c. search needs)
-    (λ c. leaves.meets-by _ _ _ _ _ _ _ (c .before .before .read-scalar .result) (leaves.gate-open _ _ _ _ (subst (GateAt _ _ _) (c .before .before .before .before .before .before .gate2 .given .1) (c .before .before .before .before .before .before .before .before .check-tag .ensures))) (c .before .before .read-scalar .ensures _))
+    (λ c. (leaves.meets-by _ _ _ _ _ _ _ (c .before .before .read-reference .result) (leaves.gate-open _ _ _ _ (subst (GateAt _ _ _) (c .before .before .before .before .before .before .gate2 .given .1) (c .before .before .before .before .before .before .before .before .check-tag .ensures))) (c .before .before .read-reference .ensures _), grows-none _))
+    (λ c. search needs)
+    (λ c. (leaves.meets-by _ _ _ _ _ _ _ (c .before .before .read-common .result) (leaves.gate-open _ _ _ _ (subst (GateAt _ _ _) (c .before .before .before .before .before .before .gate2 .given .1) (c .before .before .before .before .before .before .before .before .check-tag .ensures))) (c .before .before .read-common .ensures _), grows-none _))

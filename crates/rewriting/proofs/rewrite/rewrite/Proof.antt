@@ -16,8 +16,8 @@ abbrev μ-loop : tie.MeasureT-loop
 loop-holds : tie.Need-loop-holds Inv-loop μ-loop
 loop-holds c = rewritten.rewriting-none _ _ _ _ _ _
 
-token-requires : tie.Need-token-requires Inv-loop μ-loop
-token-requires c κs = search needs
+in-line-requires : tie.Need-in-line-requires Inv-loop μ-loop
+in-line-requires c κs = search needs
 
 enum-known-scan : tie.Need-enum-known-scan Inv-loop μ-loop
 enum-known-scan c = search needs
@@ -29,16 +29,16 @@ same-length : tie.Need-same-length Inv-loop μ-loop
 same-length c = (c .before .before .before .before .loop .inv) .same
 
 returns : tie.Need-returns Inv-loop μ-loop
-returns c = rewritten.rewriting-unfit (c .before .before .before .before .loop .inv) _ _ (c .before .before .token .ensures .scans) (c .enum-told .given .1)
+returns c = rewritten.rewriting-unfit (c .before .before .before .before .loop .inv) _ _ (c .before .before .in-line .ensures .scans) (c .enum-told .given .1)
 
 respell-requires : tie.Need-respell-requires Inv-loop μ-loop
-respell-requires c κs = rewritten.next-bounds (c .before .before .before .before .before .before .loop .inv) (c .before .before .before .before .before .loop-test .taken) _ (found-of (c .before .before .before .before .token .ensures .scans) (c .before .before .scan .given .1)) (c .before .before .before .before .before .before .before .before .before .pre)
+respell-requires c κs = rewritten.next-bounds (c .before .before .before .before .before .before .loop .inv) (c .before .before .before .before .before .loop-test .taken) _ (found-of (c .before .before .before .before .in-line .ensures .scans) (c .before .before .scan .given .1)) (c .before .before .before .before .before .before .before .before .before .pre)
 
 loop-less : tie.Need-loop-less Inv-loop μ-loop
-loop-less c = omega (arith, (found-of (c .before .before .before .before .before .before .before .token .ensures .scans) (c .before .before .before .before .before .scan .given .1)) .on, (c .before .before .before .before .before .before .before .before .loop-test .taken))
+loop-less c = omega (arith, (found-of (c .before .before .before .before .before .before .before .in-line .ensures .scans) (c .before .before .before .before .before .scan .given .1)) .on, (c .before .before .before .before .before .before .before .before .loop-test .taken))
 
 loop-again : tie.Need-loop-again Inv-loop μ-loop
-loop-again c = rewritten.rewriting-more (c .before .before .before .before .before .before .before .before .before .loop .inv) (c .before .before .before .before .before .before .before .before .loop-test .taken) _ (found-of (c .before .before .before .before .before .before .before .token .ensures .scans) (c .before .before .before .before .before .scan .given .1)) _ _ (c .before .before .respell .ensures) (c .before .before .respell .kept .1 .1 .1 .1 .0)
+loop-again c = rewritten.rewriting-more (c .before .before .before .before .before .before .before .before .before .loop .inv) (c .before .before .before .before .before .before .before .before .loop-test .taken) _ (found-of (c .before .before .before .before .before .before .before .in-line .ensures .scans) (c .before .before .before .before .before .scan .given .1)) _ _ (c .before .before .respell .ensures) (c .before .before .respell .kept .1 .1 .1 .1 .0)
 
 same-length-2 : tie.Need-same-length-2 Inv-loop μ-loop
 same-length-2 c = (c .before .loop .inv) .same
@@ -53,7 +53,7 @@ rewrite-spec =
     Inv-loop
     μ-loop
     loop-holds
-    token-requires
+    in-line-requires
     enum-known-scan
     enum-told
     same-length

@@ -1,0 +1,45 @@
+-- `marks::enter` meets its contract. Assumes nothing.
+use borrow.Author.Needs.{needs}
+use Rattle.marks.specs.Marks.{slotOf}
+use Rattle.marks.proofs.Marking as marking
+use Rattle.marks.proofs.enter.Statement.{statement}
+use Rattle.marks.proofs.enter.Tie as tie
+
+returns : tie.Need-returns
+unfolding slotOf
+returns c = marking.entered-out _ _ (c .if1 .taken)
+
+mask-of-requires : tie.Need-mask-of-requires
+mask-of-requires c κs = search needs
+
+mul-word : tie.Need-mul-word
+mul-word c = search needs
+
+slice-read-word : tie.Need-slice-read-word
+slice-read-word c = search needs
+
+mul-marks : tie.Need-mul-marks
+mul-marks c = search needs
+
+slice-write-marks : tie.Need-slice-write-marks
+slice-write-marks c = search needs
+
+same-length : tie.Need-same-length
+same-length c = search needs
+
+returns-2 : tie.Need-returns-2
+unfolding slotOf
+returns-2 c = marking.entered-in _ _ _ (c .before .before .if1 .left) (c .before .mask-of .ensures)
+
+pub enter-spec : {M : Type 1} → statement M
+enter-spec =
+    tie.close
+    (tie.spec
+    returns
+    mask-of-requires
+    mul-word
+    slice-read-word
+    mul-marks
+    slice-write-marks
+    same-length
+    returns-2)

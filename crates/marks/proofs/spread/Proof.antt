@@ -1,0 +1,15 @@
+-- `marks::spread` meets its contract. Assumes nothing.
+use borrow.Author.Needs.{needs}
+use Rattle.marks.specs.Hash.{spread}
+use Rattle.marks.proofs.spread.Statement.{statement}
+use Rattle.marks.proofs.spread.Tie as tie
+
+mixed-requires : tie.Need-mixed-requires
+mixed-requires c κs = search needs
+
+returns : tie.Need-returns
+unfolding spread
+returns c = search needs
+
+pub spread-spec : {M : Type 1} → statement M
+spread-spec = tie.close (tie.spec mixed-requires returns)

@@ -1,0 +1,29 @@
+-- `scanner::scalar::of_key` meets its contract. Assumes nothing.
+use Rattle.scanner.proofs.Numbers.{answered}
+use Rattle.scanner.proofs.Scalars as scalars
+use borrow.Author.Needs.{needs}
+use Rattle.scanner.proofs.scalar.of_key.Statement.{statement}
+use Rattle.scanner.proofs.scalar.of_key.Tie as tie
+
+int-requires : tie.Need-int-requires
+int-requires c κs = search needs
+
+quoted-requires : tie.Need-quoted-requires
+quoted-requires c κs = search needs
+
+scalar-requires : tie.Need-scalar-requires
+scalar-requires c κs = search needs
+
+returns : tie.Need-returns
+returns c = answered (scalars.scalar-int _ _ _ _ (c .before .match .keys1) (c .int .ensures .scans))
+
+returns-2 : tie.Need-returns-2
+returns-2 c = answered (scalars.scalar-string _ _ _ _ (c .before .match .keys2) (c .quoted .ensures .scans))
+
+returns-3 : tie.Need-returns-3
+returns-3 c = c .scalar .ensures
+
+pub of-key-spec : {M : Type 1} → statement M
+of-key-spec =
+    tie.close
+    (tie.spec int-requires quoted-requires scalar-requires returns returns-2 returns-3)
