@@ -23,6 +23,7 @@ fn push_digit(value: u64, digit: u8, cap: u64) -> u64
     ensures { λ r. ⌜ r ≡ min cap (value * 10 + (digit - 48)) ⌝ }
 {
     let d = (digit - 48) as u64;
+    // Nearly every run stays below: one test a digit for it.
     if value < cap / 10 {
         return value * 10 + d;
     }

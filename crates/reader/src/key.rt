@@ -58,7 +58,7 @@ pub(crate) fn read_key(
     if capacity <= node {
         return Step::Refused(7, at);
     }
-    let scan = scanner::scalar::of_key(source, at + 1, tag);
+    let scan = scanner::in_line::key(source, at + 1, tag);
     let Scan::Is(text) = scan else {
         return refused(scan, at);
     };

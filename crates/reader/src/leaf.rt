@@ -7,11 +7,32 @@ use crate::table::place;
 use format::kind::Kind;
 use scanner::Scan;
 use scanner::Text;
-ghost use Prim.Native.Nat.{_<_};
+ghost use Prim.Native.Nat.{_+_, _<_};
 ghost use lib.ListN.{length};
 ghost use Rattle.format.specs.Read.{Inner};
+ghost use Rattle.scanner.specs.Scans.{Answers, scalarBehind, scalarTold};
 ghost use Rattle.reader.specs.Texts.{scalarTag, referenceTag};
 ghost use Rattle.reader.specs.Steps.{Fit, bodyAt, Meets};
+
+// The node of a scalar whose text was scanned.
+fn put_scalar(
+    source: &[u8],
+    table: &mut [u64],
+    capacity: usize,
+    cursor: Cursor,
+    tag: u8,
+    scan: Scan,
+) -> Step
+    requires { ⌜ Fit (now source) (now table) capacity cursor ⌝ }
+    requires { ⌜ (cursor .at < length (now source)) × (cursor .node < capacity) × scalarTag tag ⌝ }
+    requires { ⌜ Answers (scalarBehind tag) (scalarTold (cursor .at + 1)) (now source) (cursor .at + 1) scan ⌝ }
+    ensures { λ r. ⌜ ((inner : Inner) → Meets (now (source .entry)) (now (table .entry)) (now (table .exit)) capacity cursor (bodyAt (now (source .entry)) capacity inner tag cursor) r) ⌝ }
+{
+    let Scan::Is(text) = scan else {
+        return refused(scan, cursor.at);
+    };
+    Step::Done(place(table, cursor, tag, text, true))
+}
 
 // A scalar: its text, then its node.
 pub(crate) fn read_scalar(
@@ -25,12 +46,8 @@ pub(crate) fn read_scalar(
     requires { ⌜ (cursor .at < length (now source)) × (cursor .node < capacity) × scalarTag tag ⌝ }
     ensures { λ r. ⌜ ((inner : Inner) → Meets (now (source .entry)) (now (table .entry)) (now (table .exit)) capacity cursor (bodyAt (now (source .entry)) capacity inner tag cursor) r) ⌝ }
 {
-    let at = cursor.at;
-    let scan = scanner::scalar::scalar(source, at + 1, tag);
-    let Scan::Is(text) = scan else {
-        return refused(scan, at);
-    };
-    Step::Done(place(table, cursor, tag, text, true))
+    let scan = scanner::scalar::scalar(source, cursor.at + 1, tag);
+    put_scalar(source, table, capacity, cursor, tag, scan)
 }
 
 // The same, for the values of a container; called in one place only, so that the compiler keeps the scan in the loop over the pairs.
@@ -45,12 +62,8 @@ pub(crate) fn read_common(
     requires { ⌜ (cursor .at < length (now source)) × (cursor .node < capacity) × scalarTag tag ⌝ }
     ensures { λ r. ⌜ ((inner : Inner) → Meets (now (source .entry)) (now (table .entry)) (now (table .exit)) capacity cursor (bodyAt (now (source .entry)) capacity inner tag cursor) r) ⌝ }
 {
-    let at = cursor.at;
-    let scan = scanner::scalar::of_value(source, at + 1, tag);
-    let Scan::Is(text) = scan else {
-        return refused(scan, at);
-    };
-    Step::Done(place(table, cursor, tag, text, true))
+    let scan = scanner::in_line::value(source, cursor.at + 1, tag);
+    put_scalar(source, table, capacity, cursor, tag, scan)
 }
 
 // A reference: its text, then 6, then its node, which says the node named.

@@ -10,7 +10,7 @@ use Rattle.format.specs.Answer.{ok}
 use Rattle.format.specs.Read.{kindOf, expect, intText, quotedText, boolText, floatText}
 use Rattle.format.proofs.Answers.{bind-map}
 use Rattle.scanner.specs.declared.Scan.{Scan}
-use Rattle.scanner.specs.Scans.{Scans, Answers, unfit, nullText, scalarText, scalarBehind, nothingTold, boolTold, literalTold, floatTold, quotedTold, scalarTold}
+use Rattle.scanner.specs.Scans.{Reader, Told, Scans, Answers, unfit, nullText, scalarText, scalarBehind, nothingTold, boolTold, literalTold, floatTold, quotedTold, scalarTold}
 use Rattle.scanner.proofs.Numbers.{scans-map, scans-same}
 
 module _ (s : List ℕ) (at b : ℕ) (r : Scan) where
@@ -38,6 +38,10 @@ module _ (s : List ℕ) (at b : ℕ) (r : Scan) where
   pub scalar-string : b ≡ tag Kind.string → Scans (λ l. quotedText l (byte "\"" ∷ byte ";" ∷ [])) (quotedTold at) s at r → Scans (scalarBehind b) (scalarTold at) s at r
   unfolding scalarText
   scalar-string e h = of-kind Kind.string (λ l. rw e) (scans-map string (λ l s. refl) (λ x next. refl) h)
+
+-- an answer made anew
+pub made : {A : Type 0} {read : Reader A} {told : Told A} {s : List ℕ} {at : ℕ} {r q : Scan} → q ≡ r → Answers read told s at r → Answers read told s at q
+made {read = read} {told = told} {s = s} {at = at} e h = subst (λ (x : Scan). Answers read told s at x) (sym e) h
 
 -- a tag that the code knows
 pub tag-as : (s : List ℕ) (at b : ℕ) (r : Scan) {k : ℕ} → b ≡ k → Answers (scalarBehind k) (scalarTold at) s at r → Answers (scalarBehind b) (scalarTold at) s at r

@@ -2,6 +2,7 @@
 pub mod flag;
 pub mod float;
 pub mod head;
+pub mod in_line;
 pub mod number;
 pub mod quoted;
 pub mod scalar;

@@ -12,7 +12,7 @@ ghost use Rattle.scanner.specs.Parts.{digitsText, signedText, signedTold
 pub(crate) const NUMBER_LIMIT: u64 = 65536;
 
 // The greatest magnitudes of an integer: with no sign or a `+`, and with a `-`.
-const POSITIVE_LIMIT: u64 = 9223372036854775807;
+pub(crate) const POSITIVE_LIMIT: u64 = 9223372036854775807;
 
 const NEGATIVE_LIMIT: u64 = 9223372036854775808;
 
@@ -39,7 +39,7 @@ pub(crate) fn digits(source: &[u8], at: usize, top: u64) -> Scan
 }
 
 // The digits of an integer behind its sign, and the semicolon.
-fn magnitude(source: &[u8], at: usize, negative: bool, top: u64) -> Scan
+pub(crate) fn magnitude(source: &[u8], at: usize, negative: bool, top: u64) -> Scan
     requires { ⌜ top < 2 ^ 64 - 1 ⌝ }
     ensures { λ r. ⌜ Scans (signedText top) (signedTold negative) (now (source .entry)) at r ⌝ }
 {

@@ -29,11 +29,11 @@ returns-2 c = (λ earlier e. steps.key-other _ _ _ _ earlier _ (c .before .befor
 returns-3 : tie.Need-returns-3
 returns-3 c = (λ earlier e. steps.key-full _ _ _ _ earlier _ (c .before .before .before .before .if1 .left) refl (sym (c .before .before .key-allowed .ensures) ∙ not-false _ (c .before .if2 .left)) (c .if3 .taken), steps.none-more _ _ _ _ _ _ _ _ _ _ _ refl (grows-none _))
 
-add-of-key : tie.Need-add-of-key
-add-of-key c = search needs
+add-key : tie.Need-add-key
+add-key c = search needs
 
-of-key-requires : tie.Need-of-key-requires
-of-key-requires c κs = search needs
+key-requires : tie.Need-key-requires
+key-requires c κs = search needs
 
 enum-known-scan : tie.Need-enum-known-scan
 enum-known-scan c = search needs
@@ -45,7 +45,7 @@ refused-requires : tie.Need-refused-requires
 refused-requires c κs = search needs
 
 returns-4 : tie.Need-returns-4
-returns-4 c = (λ earlier e. steps.key-not _ _ _ _ earlier _ (c .before .before .before .before .before .before .before .before .if1 .left) refl (sym (c .before .before .before .before .before .before .key-allowed .ensures) ∙ not-false _ (c .before .before .before .before .before .if2 .left)) (c .before .before .before .before .if3 .left) (c .before .before .before .before .before .before .before .before .before .before .before .before .args .table .now) (c .before .before .before .before .before .before .before .before .before .before .before .before .args .table .now) _ _ _ (key-behind _ _ _ _ (tagged.key-any (isArrayTag (c .before .before .before .before .before .before .before .before .before .before .before .before .args .container)) (getD (c .before .before .before .before .before .before .before .before .before .before .before .before .args .source .now) (c .before .before .before .before .before .before .before .before .before .before .before .before .args .cursor .at) 0) (sym (c .before .before .before .before .before .before .key-allowed .ensures) ∙ not-false _ (c .before .before .before .before .before .if2 .left))) (c .before .before .before .of-key .ensures .scans)) (c .before .enum-told .given .1) (c .refused .ensures), steps.none-more _ _ _ _ _ _ _ _ _ _ _ (refused-is _ _ _ _ (c .refused .ensures) (c .before .enum-told .given .1)) (grows-none _))
+returns-4 c = (λ earlier e. steps.key-not _ _ _ _ earlier _ (c .before .before .before .before .before .before .before .before .if1 .left) refl (sym (c .before .before .before .before .before .before .key-allowed .ensures) ∙ not-false _ (c .before .before .before .before .before .if2 .left)) (c .before .before .before .before .if3 .left) (c .before .before .before .before .before .before .before .before .before .before .before .before .args .table .now) (c .before .before .before .before .before .before .before .before .before .before .before .before .args .table .now) _ _ _ (key-behind _ _ _ _ (tagged.key-any (isArrayTag (c .before .before .before .before .before .before .before .before .before .before .before .before .args .container)) (getD (c .before .before .before .before .before .before .before .before .before .before .before .before .args .source .now) (c .before .before .before .before .before .before .before .before .before .before .before .before .args .cursor .at) 0) (sym (c .before .before .before .before .before .before .key-allowed .ensures) ∙ not-false _ (c .before .before .before .before .before .if2 .left))) (c .before .before .before .key .ensures .scans)) (c .before .enum-told .given .1) (c .refused .ensures), steps.none-more _ _ _ _ _ _ _ _ _ _ _ (refused-is _ _ _ _ (c .refused .ensures) (c .before .enum-told .given .1)) (grows-none _))
 
 cast-t20 : tie.Need-cast-t20
 cast-t20 c = omega (arith, c .before .before .before .before .before .before .before .shared-slice-known2 .given (c .before .before .before .before .before .before .before .before .before .before .before .before .args .cursor .at))
@@ -60,7 +60,7 @@ same-length-2 : tie.Need-same-length-2
 same-length-2 c = search needs
 
 returns-5 : tie.Need-returns-5
-returns-5 c = (λ earlier e. steps.key-twice _ _ _ _ earlier _ (c .before .before .before .before .before .before .before .before .before .before .before .before .before .before .if1 .left) refl (sym (c .before .before .before .before .before .before .before .before .before .before .before .before .key-allowed .ensures) ∙ not-false _ (c .before .before .before .before .before .before .before .before .before .before .before .if2 .left)) (c .before .before .before .before .before .before .before .before .before .before .if3 .left) _ (found-of (key-behind _ _ _ _ (tagged.key-any (isArrayTag (c .before .before .before .before .before .before .before .before .before .before .before .before .before .before .before .before .before .before .args .container)) (getD (c .before .before .before .before .before .before .before .before .before .before .before .before .before .before .before .before .before .before .args .source .now) (c .before .before .before .before .before .before .before .before .before .before .before .before .before .before .before .before .before .before .args .cursor .at) 0) (sym (c .before .before .before .before .before .before .before .before .before .before .before .before .key-allowed .ensures) ∙ not-false _ (c .before .before .before .before .before .before .before .before .before .before .before .if2 .left))) (c .before .before .before .before .before .before .before .before .before .of-key .ensures .scans)) (c .before .before .before .before .before .before .before .scan .given .1)) (e .same _ ∙ sym (c .before .before .before .key-seen .ensures .answer _ _ (steps.key-held _ _ _ (c .before .before .before .before .before .before .before .before .before .before .before .before .before .before .before .before .before .before .args .cursor) earlier _ (c .before .before .before .before .before .before .before .before .before .before .before .before .before .before .if1 .left) refl (sym (c .before .before .before .before .before .before .before .before .before .before .before .before .key-allowed .ensures) ∙ not-false _ (c .before .before .before .before .before .before .before .before .before .before .before .if2 .left)) (c .before .before .before .before .before .before .before .before .before .before .if3 .left) _ (found-of (key-behind _ _ _ _ (tagged.key-any (isArrayTag (c .before .before .before .before .before .before .before .before .before .before .before .before .before .before .before .before .before .before .args .container)) (getD (c .before .before .before .before .before .before .before .before .before .before .before .before .before .before .before .before .before .before .args .source .now) (c .before .before .before .before .before .before .before .before .before .before .before .before .before .before .before .before .before .before .args .cursor .at) 0) (sym (c .before .before .before .before .before .before .before .before .before .before .before .before .key-allowed .ensures) ∙ not-false _ (c .before .before .before .before .before .before .before .before .before .before .before .if2 .left))) (c .before .before .before .before .before .before .before .before .before .of-key .ensures .scans)) (c .before .before .before .before .before .before .before .scan .given .1))) (e .chain) (e .known)) ∙ c .if4 .taken), steps.none-more _ _ _ _ _ _ _ _ _ _ _ refl (c .before .before .before .key-seen .ensures .grows))
+returns-5 c = (λ earlier e. steps.key-twice _ _ _ _ earlier _ (c .before .before .before .before .before .before .before .before .before .before .before .before .before .before .if1 .left) refl (sym (c .before .before .before .before .before .before .before .before .before .before .before .before .key-allowed .ensures) ∙ not-false _ (c .before .before .before .before .before .before .before .before .before .before .before .if2 .left)) (c .before .before .before .before .before .before .before .before .before .before .if3 .left) _ (found-of (key-behind _ _ _ _ (tagged.key-any (isArrayTag (c .before .before .before .before .before .before .before .before .before .before .before .before .before .before .before .before .before .before .args .container)) (getD (c .before .before .before .before .before .before .before .before .before .before .before .before .before .before .before .before .before .before .args .source .now) (c .before .before .before .before .before .before .before .before .before .before .before .before .before .before .before .before .before .before .args .cursor .at) 0) (sym (c .before .before .before .before .before .before .before .before .before .before .before .before .key-allowed .ensures) ∙ not-false _ (c .before .before .before .before .before .before .before .before .before .before .before .if2 .left))) (c .before .before .before .before .before .before .before .before .before .key .ensures .scans)) (c .before .before .before .before .before .before .before .scan .given .1)) (e .same _ ∙ sym (c .before .before .before .key-seen .ensures .answer _ _ (steps.key-held _ _ _ (c .before .before .before .before .before .before .before .before .before .before .before .before .before .before .before .before .before .before .args .cursor) earlier _ (c .before .before .before .before .before .before .before .before .before .before .before .before .before .before .if1 .left) refl (sym (c .before .before .before .before .before .before .before .before .before .before .before .before .key-allowed .ensures) ∙ not-false _ (c .before .before .before .before .before .before .before .before .before .before .before .if2 .left)) (c .before .before .before .before .before .before .before .before .before .before .if3 .left) _ (found-of (key-behind _ _ _ _ (tagged.key-any (isArrayTag (c .before .before .before .before .before .before .before .before .before .before .before .before .before .before .before .before .before .before .args .container)) (getD (c .before .before .before .before .before .before .before .before .before .before .before .before .before .before .before .before .before .before .args .source .now) (c .before .before .before .before .before .before .before .before .before .before .before .before .before .before .before .before .before .before .args .cursor .at) 0) (sym (c .before .before .before .before .before .before .before .before .before .before .before .before .key-allowed .ensures) ∙ not-false _ (c .before .before .before .before .before .before .before .before .before .before .before .if2 .left))) (c .before .before .before .before .before .before .before .before .before .key .ensures .scans)) (c .before .before .before .before .before .before .before .scan .given .1))) (e .chain) (e .known)) ∙ c .if4 .taken), steps.none-more _ _ _ _ _ _ _ _ _ _ _ refl (c .before .before .before .key-seen .ensures .grows))
 
 place-requires : tie.Need-place-requires
 place-requires c κs = search needs
@@ -72,7 +72,7 @@ same-length-4 : tie.Need-same-length-4
 same-length-4 c = search needs
 
 returns-6 : tie.Need-returns-6
-returns-6 c = (λ earlier e. steps.key-good _ _ _ _ earlier _ (c .before .before .before .before .before .before .before .before .before .before .before .before .before .before .before .before .before .before .if1 .left) refl (sym (c .before .before .before .before .before .before .before .before .before .before .before .before .before .before .before .before .key-allowed .ensures) ∙ not-false _ (c .before .before .before .before .before .before .before .before .before .before .before .before .before .before .before .if2 .left)) (c .before .before .before .before .before .before .before .before .before .before .before .before .before .before .if3 .left) _ (found-of (key-behind _ _ _ _ (tagged.key-any (isArrayTag (c .before .before .before .before .before .before .before .before .before .before .before .before .before .before .before .before .before .before .before .before .before .before .args .container)) (getD (c .before .before .before .before .before .before .before .before .before .before .before .before .before .before .before .before .before .before .before .before .before .before .args .source .now) (c .before .before .before .before .before .before .before .before .before .before .before .before .before .before .before .before .before .before .before .before .before .before .args .cursor .at) 0) (sym (c .before .before .before .before .before .before .before .before .before .before .before .before .before .before .before .before .key-allowed .ensures) ∙ not-false _ (c .before .before .before .before .before .before .before .before .before .before .before .before .before .before .before .if2 .left))) (c .before .before .before .before .before .before .before .before .before .before .before .before .before .of-key .ensures .scans)) (c .before .before .before .before .before .before .before .before .before .before .before .scan .given .1)) _ _ _ (c .before .before .before .before .before .before .before .before .before .before .before .before .before .before .before .before .before .before .before .before .before .before .pre .0) (e .same _ ∙ sym (c .before .before .before .before .before .before .before .key-seen .ensures .answer _ _ (steps.key-held _ _ _ (c .before .before .before .before .before .before .before .before .before .before .before .before .before .before .before .before .before .before .before .before .before .before .args .cursor) earlier _ (c .before .before .before .before .before .before .before .before .before .before .before .before .before .before .before .before .before .before .if1 .left) refl (sym (c .before .before .before .before .before .before .before .before .before .before .before .before .before .before .before .before .key-allowed .ensures) ∙ not-false _ (c .before .before .before .before .before .before .before .before .before .before .before .before .before .before .before .if2 .left)) (c .before .before .before .before .before .before .before .before .before .before .before .before .before .before .if3 .left) _ (found-of (key-behind _ _ _ _ (tagged.key-any (isArrayTag (c .before .before .before .before .before .before .before .before .before .before .before .before .before .before .before .before .before .before .before .before .before .before .args .container)) (getD (c .before .before .before .before .before .before .before .before .before .before .before .before .before .before .before .before .before .before .before .before .before .before .args .source .now) (c .before .before .before .before .before .before .before .before .before .before .before .before .before .before .before .before .before .before .before .before .before .before .args .cursor .at) 0) (sym (c .before .before .before .before .before .before .before .before .before .before .before .before .before .before .before .before .key-allowed .ensures) ∙ not-false _ (c .before .before .before .before .before .before .before .before .before .before .before .before .before .before .before .if2 .left))) (c .before .before .before .before .before .before .before .before .before .before .before .before .before .of-key .ensures .scans)) (c .before .before .before .before .before .before .before .before .before .before .before .scan .given .1))) (e .chain) (e .known)) ∙ c .before .before .before .before .if4 .left) (c .before .before .place .ensures), steps.one-more _ _ _ _ _ _ _ _ _ _ _ _ _ _ (c .before .before .before .before .before .before .before .before .before .before .before .before .before .before .before .before .before .before .before .before .before .before .pre .0) (c .before .before .before .before .before .before .before .before .before .before .before .before .before .before .if3 .left) (c .before .before .before .before .before .before .before .key-seen .ensures) (c .before .before .place .ensures))
+returns-6 c = (λ earlier e. steps.key-good _ _ _ _ earlier _ (c .before .before .before .before .before .before .before .before .before .before .before .before .before .before .before .before .before .before .if1 .left) refl (sym (c .before .before .before .before .before .before .before .before .before .before .before .before .before .before .before .before .key-allowed .ensures) ∙ not-false _ (c .before .before .before .before .before .before .before .before .before .before .before .before .before .before .before .if2 .left)) (c .before .before .before .before .before .before .before .before .before .before .before .before .before .before .if3 .left) _ (found-of (key-behind _ _ _ _ (tagged.key-any (isArrayTag (c .before .before .before .before .before .before .before .before .before .before .before .before .before .before .before .before .before .before .before .before .before .before .args .container)) (getD (c .before .before .before .before .before .before .before .before .before .before .before .before .before .before .before .before .before .before .before .before .before .before .args .source .now) (c .before .before .before .before .before .before .before .before .before .before .before .before .before .before .before .before .before .before .before .before .before .before .args .cursor .at) 0) (sym (c .before .before .before .before .before .before .before .before .before .before .before .before .before .before .before .before .key-allowed .ensures) ∙ not-false _ (c .before .before .before .before .before .before .before .before .before .before .before .before .before .before .before .if2 .left))) (c .before .before .before .before .before .before .before .before .before .before .before .before .before .key .ensures .scans)) (c .before .before .before .before .before .before .before .before .before .before .before .scan .given .1)) _ _ _ (c .before .before .before .before .before .before .before .before .before .before .before .before .before .before .before .before .before .before .before .before .before .before .pre .0) (e .same _ ∙ sym (c .before .before .before .before .before .before .before .key-seen .ensures .answer _ _ (steps.key-held _ _ _ (c .before .before .before .before .before .before .before .before .before .before .before .before .before .before .before .before .before .before .before .before .before .before .args .cursor) earlier _ (c .before .before .before .before .before .before .before .before .before .before .before .before .before .before .before .before .before .before .if1 .left) refl (sym (c .before .before .before .before .before .before .before .before .before .before .before .before .before .before .before .before .key-allowed .ensures) ∙ not-false _ (c .before .before .before .before .before .before .before .before .before .before .before .before .before .before .before .if2 .left)) (c .before .before .before .before .before .before .before .before .before .before .before .before .before .before .if3 .left) _ (found-of (key-behind _ _ _ _ (tagged.key-any (isArrayTag (c .before .before .before .before .before .before .before .before .before .before .before .before .before .before .before .before .before .before .before .before .before .before .args .container)) (getD (c .before .before .before .before .before .before .before .before .before .before .before .before .before .before .before .before .before .before .before .before .before .before .args .source .now) (c .before .before .before .before .before .before .before .before .before .before .before .before .before .before .before .before .before .before .before .before .before .before .args .cursor .at) 0) (sym (c .before .before .before .before .before .before .before .before .before .before .before .before .before .before .before .before .key-allowed .ensures) ∙ not-false _ (c .before .before .before .before .before .before .before .before .before .before .before .before .before .before .before .if2 .left))) (c .before .before .before .before .before .before .before .before .before .before .before .before .before .key .ensures .scans)) (c .before .before .before .before .before .before .before .before .before .before .before .scan .given .1))) (e .chain) (e .known)) ∙ c .before .before .before .before .if4 .left) (c .before .before .place .ensures), steps.one-more _ _ _ _ _ _ _ _ _ _ _ _ _ _ (c .before .before .before .before .before .before .before .before .before .before .before .before .before .before .before .before .before .before .before .before .before .before .pre .0) (c .before .before .before .before .before .before .before .before .before .before .before .before .before .before .if3 .left) (c .before .before .before .before .before .before .before .key-seen .ensures) (c .before .before .place .ensures))
 
 pub read-key-spec : {M : Type 1} → statement M
 read-key-spec =
@@ -83,8 +83,8 @@ read-key-spec =
     key-allowed-requires
     returns-2
     returns-3
-    add-of-key
-    of-key-requires
+    add-key
+    key-requires
     enum-known-scan
     enum-told
     refused-requires

@@ -19,18 +19,24 @@ enum-known-gate-2 c = search needs
 
 read-container-requires : tie.Need-read-container-requires
 read-container-requires c κs =
-    let g = (subst (GateAt _ _ _) (c .before .before .before .before .gate2 .given .1) (c .before .before .before .before .before .before .check-tag .ensures)) in
-    (c .before .before .before .before .before .before .before .before .before .before .pre, (g .inside, g .free, g .level, tagged.container-of _ (c .before .before .match2 .keys1)))
+    let opened = c .before .before .before .before in
+    let checked = opened .before .before in
+    let g = subst (GateAt _ _ _) (opened .gate2 .given .1) (checked .check-tag .ensures) in
+    (checked .before .before .before .before .pre, (g .inside, g .free, g .level, tagged.container-of _ (c .before .before .match2 .keys1)))
 
 read-reference-requires : tie.Need-read-reference-requires
 read-reference-requires c κs =
-    let g = (subst (GateAt _ _ _) (c .before .before .before .gate2 .given .1) (c .before .before .before .before .before .check-tag .ensures)) in
-    (c .before .before .before .before .before .before .before .before .before .pre, (g .inside, g .free, tagged.reference-of _ (c .before .match2 .keys2)))
+    let opened = c .before .before .before in
+    let checked = opened .before .before in
+    let g = subst (GateAt _ _ _) (opened .gate2 .given .1) (checked .check-tag .ensures) in
+    (checked .before .before .before .before .pre, (g .inside, g .free, tagged.reference-of _ (c .before .match2 .keys2)))
 
 read-scalar-requires : tie.Need-read-scalar-requires
 read-scalar-requires c κs =
-    let g = (subst (GateAt _ _ _) (c .before .before .before .gate2 .given .1) (c .before .before .before .before .before .check-tag .ensures)) in
-    (c .before .before .before .before .before .before .before .before .before .pre, (g .inside, g .free, tagged.scalar-rest _ (g .known) (c .before .match2 .rest .0 .1) (c .before .match2 .rest .1)))
+    let opened = c .before .before .before in
+    let checked = opened .before .before in
+    let g = subst (GateAt _ _ _) (opened .gate2 .given .1) (checked .check-tag .ensures) in
+    (checked .before .before .before .before .pre, (g .inside, g .free, tagged.scalar-rest _ (g .known) (c .before .match2 .rest .0 .1) (c .before .match2 .rest .1)))
 
 returns : tie.Need-returns
 returns c = (subst (GateAt _ _ _) (c .before .gate .given .1) (c .before .before .before .check-tag .ensures), grows-none _)
@@ -42,19 +48,31 @@ same-length-2 : tie.Need-same-length-2
 same-length-2 c = search needs
 
 returns-2 : tie.Need-returns-2
-returns-2 c = (leaves.meets-by _ _ _ _ _ _ _ (c .before .before .before .before .read-container .result) (leaves.gate-open _ _ _ _ (subst (GateAt _ _ _) (c .before .before .before .before .before .before .before .before .before .gate2 .given .1) (c .before .before .before .before .before .before .before .before .before .before .before .check-tag .ensures))) (c .before .before .before .before .read-container .ensures .0), c .before .before .before .before .read-container .ensures .1)
+returns-2 c =
+    let called = c .before .before .before .before in
+    let opened = called .before .before .before .before .before in
+    let g = subst (GateAt _ _ _) (opened .gate2 .given .1) (opened .before .before .check-tag .ensures) in
+    (leaves.meets-by _ _ _ _ _ _ _ (called .read-container .result) (leaves.gate-open _ _ _ _ g) (called .read-container .ensures .0), called .read-container .ensures .1)
 
 same-length-3 : tie.Need-same-length-3
 same-length-3 c = search needs
 
 returns-3 : tie.Need-returns-3
-returns-3 c = (leaves.meets-by _ _ _ _ _ _ _ (c .before .before .read-reference .result) (leaves.gate-open _ _ _ _ (subst (GateAt _ _ _) (c .before .before .before .before .before .before .gate2 .given .1) (c .before .before .before .before .before .before .before .before .check-tag .ensures))) (c .before .before .read-reference .ensures _), grows-none _)
+returns-3 c =
+    let called = c .before .before in
+    let opened = called .before .before .before .before in
+    let g = subst (GateAt _ _ _) (opened .gate2 .given .1) (opened .before .before .check-tag .ensures) in
+    (leaves.meets-by _ _ _ _ _ _ _ (called .read-reference .result) (leaves.gate-open _ _ _ _ g) (called .read-reference .ensures _), grows-none _)
 
 same-length-4 : tie.Need-same-length-4
 same-length-4 c = search needs
 
 returns-4 : tie.Need-returns-4
-returns-4 c = (leaves.meets-by _ _ _ _ _ _ _ (c .before .before .read-scalar .result) (leaves.gate-open _ _ _ _ (subst (GateAt _ _ _) (c .before .before .before .before .before .before .gate2 .given .1) (c .before .before .before .before .before .before .before .before .check-tag .ensures))) (c .before .before .read-scalar .ensures _), grows-none _)
+returns-4 c =
+    let called = c .before .before in
+    let opened = called .before .before .before .before in
+    let g = subst (GateAt _ _ _) (opened .gate2 .given .1) (opened .before .before .check-tag .ensures) in
+    (leaves.meets-by _ _ _ _ _ _ _ (called .read-scalar .result) (leaves.gate-open _ _ _ _ g) (called .read-scalar .ensures _), grows-none _)
 
 pub read-root-spec : {M : Type 1} → statement M
 read-root-spec =

@@ -1,25 +1,22 @@
--- `scanner::scalar::of_float` meets its contract. Assumes nothing.
+-- `scanner::in_line::plain_first` meets its contract. Assumes nothing.
 use native.Mathlib.Omega.{arith}
 use mathlib.Core.Path.{refl, sym, _∙_}
 use lib.Dec.{lit<}
 use borrow.Author.Needs.{needs}
-use borrow.Author.Tests.{not-false}
+use borrow.Author.Tests.{not-true, not-false}
 use Rattle.format.specs.Bytes.{byte}
 use Rattle.bytes_at.proofs.BytesAt.{byte-there}
 use Rattle.scanner.proofs.Numbers.{answered}
 use Rattle.scanner.proofs.Floats as floats
 use Rattle.scanner.proofs.Scalars as scalars
-use Rattle.scanner.proofs.scalar.of_float.Statement.{statement}
-use Rattle.scanner.proofs.scalar.of_float.Tie as tie
+use Rattle.scanner.proofs.in_line.plain_first.Statement.{statement}
+use Rattle.scanner.proofs.in_line.plain_first.Tie as tie
 
 byte-is-requires : tie.Need-byte-is-requires
 byte-is-requires c κs = search needs
 
-scalar-requires : tie.Need-scalar-requires
-scalar-requires c κs = search needs
-
 returns : tie.Need-returns
-returns c = search needs
+returns c = answered (scalars.scalar-float _ _ _ _ refl (floats.float-colon _ _ (sym (c .before .byte-is .ensures) ∙ not-true _ (c .if1 .taken))))
 
 add-from : tie.Need-add-from
 add-from c = omega (arith, byte-there _ _ (byte ":") (lit< tt) (sym (c .before .byte-is .ensures) ∙ not-false _ (c .if1 .left)))
@@ -27,34 +24,27 @@ add-from c = omega (arith, byte-there _ _ (byte ":") (lit< tt) (sym (c .before .
 plain-end-requires : tie.Need-plain-end-requires
 plain-end-requires c κs = search needs
 
-scalar-requires-2 : tie.Need-scalar-requires-2
-scalar-requires-2 c κs = search needs
+scalar-requires : tie.Need-scalar-requires
+scalar-requires c κs = search needs
+
+anew-requires : tie.Need-anew-requires
+anew-requires c κs = search needs
 
 returns-2 : tie.Need-returns-2
-returns-2 c = search needs
+returns-2 c = scalars.made (c .anew .ensures) (c .before .scalar .ensures)
 
-sub-t8 : tie.Need-sub-t8
-sub-t8 c = search needs
+sub-size : tie.Need-sub-size
+sub-size c = search needs
 
-add-t10 : tie.Need-add-t10
-add-t10 c = let p = c .before .plain-end .ensures (omega (arith, c .if2 .left)) in omega (arith, p .inside)
+add-next : tie.Need-add-next
+add-next c = let p = c .before .plain-end .ensures (omega (arith, c .if2 .left)) in omega (arith, p .inside)
 
 returns-3 : tie.Need-returns-3
 returns-3 c =
     let p = c .before .plain-end .ensures (omega (arith, c .if2 .left)) in
     answered (scalars.scalar-float _ _ _ _ refl (floats.float-is _ _ (sym (c .before .before .before .byte-is .ensures) ∙ not-false _ (c .before .before .if1 .left)) _ (p .semicolon) (p .float) _ refl _ refl (p .inside)))
 
-pub of-float-spec : {M : Type 1} → statement M
-of-float-spec =
+pub plain-first-spec : {M : Type 1} → statement M
+plain-first-spec =
     tie.close
-    (tie.spec
-    byte-is-requires
-    scalar-requires
-    returns
-    add-from
-    plain-end-requires
-    scalar-requires-2
-    returns-2
-    sub-t8
-    add-t10
-    returns-3)
+    (tie.spec byte-is-requires returns add-from plain-end-requires scalar-requires anew-requires returns-2 sub-size add-next returns-3)

@@ -1,9 +1,9 @@
--- `scanner::scalar::of_key` meets its contract. Assumes nothing.
+-- `scanner::in_line::key` meets its contract. Assumes nothing.
 use Rattle.scanner.proofs.Numbers.{answered}
 use Rattle.scanner.proofs.Scalars as scalars
 use borrow.Author.Needs.{needs}
-use Rattle.scanner.proofs.scalar.of_key.Statement.{statement}
-use Rattle.scanner.proofs.scalar.of_key.Tie as tie
+use Rattle.scanner.proofs.in_line.key.Statement.{statement}
+use Rattle.scanner.proofs.in_line.key.Tie as tie
 
 int-requires : tie.Need-int-requires
 int-requires c κs = search needs
@@ -14,6 +14,9 @@ quoted-requires c κs = search needs
 scalar-requires : tie.Need-scalar-requires
 scalar-requires c κs = search needs
 
+anew-requires : tie.Need-anew-requires
+anew-requires c κs = search needs
+
 returns : tie.Need-returns
 returns c = answered (scalars.scalar-int _ _ _ _ (c .before .match .keys1) (c .int .ensures .scans))
 
@@ -21,9 +24,9 @@ returns-2 : tie.Need-returns-2
 returns-2 c = answered (scalars.scalar-string _ _ _ _ (c .before .match .keys2) (c .quoted .ensures .scans))
 
 returns-3 : tie.Need-returns-3
-returns-3 c = c .scalar .ensures
+returns-3 c = scalars.made (c .anew .ensures) (c .before .scalar .ensures)
 
-pub of-key-spec : {M : Type 1} → statement M
-of-key-spec =
+pub key-spec : {M : Type 1} → statement M
+key-spec =
     tie.close
-    (tie.spec int-requires quoted-requires scalar-requires returns returns-2 returns-3)
+    (tie.spec int-requires quoted-requires scalar-requires anew-requires returns returns-2 returns-3)

@@ -1,0 +1,41 @@
+-- `reader::leaf::put_scalar` meets its contract. Assumes nothing.
+use Rattle.scanner.proofs.Numbers.{found-of}
+use Rattle.reader.proofs.ScalarTexts.{scalar-behind}
+use Rattle.reader.proofs.Leaves as leaves
+use borrow.Author.Needs.{needs}
+use Rattle.reader.proofs.leaf.put_scalar.Statement.{statement}
+use Rattle.reader.proofs.leaf.put_scalar.Tie as tie
+
+enum-known-scan : tie.Need-enum-known-scan
+enum-known-scan c = search needs
+
+enum-told : tie.Need-enum-told
+enum-told c = search needs
+
+refused-requires : tie.Need-refused-requires
+refused-requires c κs = search needs
+
+returns : tie.Need-returns
+returns c =
+    let start = c .before .before .before .before .before in
+    let is-scalar = start .pre .1 .0 .2 in
+    λ inner. leaves.scalar-not _ _ _ _ is-scalar inner (start .args .table .now) (start .args .table .now) _ _ _ (scalar-behind is-scalar (start .pre .1 .1 .scans)) (c .before .enum-told .given .1) (c .refused .ensures)
+
+place-requires : tie.Need-place-requires
+place-requires c κs = search needs
+
+same-length : tie.Need-same-length
+same-length c = search needs
+
+returns-2 : tie.Need-returns-2
+returns-2 c =
+    let known = c .before .before .before .before .before in
+    let start = known .before .before .before .before in
+    let is-scalar = start .pre .1 .0 .2 in
+    λ inner.
+    leaves.scalar-good _ _ _ _ is-scalar inner _ _ _ _ (start .pre .0) (start .pre .1 .0 .1) (found-of (scalar-behind is-scalar (start .pre .1 .1 .scans)) (known .scan .given .1)) (c .before .before .place .ensures)
+
+pub put-scalar-spec : {M : Type 1} → statement M
+put-scalar-spec =
+    tie.close
+    (tie.spec enum-known-scan enum-told refused-requires returns place-requires same-length returns-2)

@@ -1,0 +1,92 @@
+// Texts of scalars where most time goes: those that keys and values mostly have are scanned in line, all others by `scalar`. Each is called in one place only, so that the compiler keeps it there.
+use crate::Scan;
+use crate::Text;
+use crate::flag::null;
+use crate::float::plain_end;
+use crate::number::POSITIVE_LIMIT;
+use crate::number::int;
+use crate::number::magnitude;
+use crate::quoted::quoted;
+use crate::scalar::STRING_END;
+use crate::scalar::scalar;
+use bytes_at::byte_is;
+use format::kind::Kind;
+ghost use mathlib.Core.Path.{_≡_};
+ghost use Rattle.scanner.specs.Scans.{Answers, scalarBehind, scalarTold};
+
+// The same answer, made here: what a call returns lies in memory, and would keep the answers made in line there too.
+fn anew(scan: Scan) -> Scan
+    ensures { λ r. ⌜ r ≡ scan ⌝ }
+{
+    match scan {
+        Scan::Is(text) => Scan::Is(Text {
+            content: text.content,
+            size: text.size,
+            link: text.link,
+            next: text.next,
+        }),
+        Scan::Not(code) => Scan::Not(code),
+    }
+}
+
+// The text of an i; one without a sign is scanned in line.
+fn unsigned_first(source: &[u8], at: usize) -> Scan
+    ensures { λ r. ⌜ Answers (scalarBehind 105) (scalarTold at) (now (source .entry)) at r ⌝ }
+{
+    if !byte_is(source, at, b':') {
+        return Scan::Not(2);
+    }
+    let from = at + 1;
+    if byte_is(source, from, b'+') {
+        return anew(scalar(source, at, Kind::INT));
+    }
+    if byte_is(source, from, b'-') {
+        return anew(scalar(source, at, Kind::INT));
+    }
+    magnitude(source, from, false, POSITIVE_LIMIT)
+}
+
+// The text of a d; one of digits with at most one point is scanned in line.
+fn plain_first(source: &[u8], at: usize) -> Scan
+    ensures { λ r. ⌜ Answers (scalarBehind 100) (scalarTold at) (now (source .entry)) at r ⌝ }
+{
+    if !byte_is(source, at, b':') {
+        return Scan::Not(2);
+    }
+    let from = at + 1;
+    let end = plain_end(source, from);
+    if end <= from {
+        return anew(scalar(source, at, Kind::FLOAT));
+    }
+    let size = end - from;
+    let next = end + 1;
+    Scan::Is(Text {
+        content: from as u64,
+        size: size as u64,
+        link: 0,
+        next,
+    })
+}
+
+// The text of a scalar with this tag, for keys: an i and an s in line.
+pub fn key(source: &[u8], at: usize, tag: u8) -> Scan
+    ensures { λ r. ⌜ Answers (scalarBehind tag) (scalarTold at) (now (source .entry)) at r ⌝ }
+{
+    match tag {
+        Kind::INT => int(source, at),
+        Kind::STRING => quoted(source, at, STRING_END),
+        _ => anew(scalar(source, at, tag)),
+    }
+}
+
+// The text of a scalar with this tag, for values: an N, an i and a d in line.
+pub fn value(source: &[u8], at: usize, tag: u8) -> Scan
+    ensures { λ r. ⌜ Answers (scalarBehind tag) (scalarTold at) (now (source .entry)) at r ⌝ }
+{
+    match tag {
+        Kind::NULL => null(source, at),
+        Kind::INT => unsigned_first(source, at),
+        Kind::FLOAT => plain_first(source, at),
+        _ => anew(scalar(source, at, tag)),
+    }
+}
