@@ -23,7 +23,7 @@ use Rattle.scanner.proofs.Numbers.{unfit-of}
 use Rattle.reader.specs.declared.cursor.Cursor.{Cursor}
 use Rattle.reader.specs.declared.cursor.Step.{Step}
 use Rattle.reader.specs.Texts.{kindFor, scalarTag, referenceTag}
-use Rattle.reader.specs.Nodes.{nodeOf, Placed, FirstAt}
+use Rattle.reader.specs.Nodes.{nodeOf, Placed, CarrierIn}
 use Rattle.reader.specs.Steps.{Points, Takes, Fit, Kept, GoodValue, Meets, IsOpen, valueAt, bodyAt, innerAt, refusalOf}
 use Rattle.reader.proofs.Tagged.{position-is, tag-end, tag-other, tag-is}
 use Rattle.reader.proofs.Bodies.{body-scalar, scalar-node, refFor, resolved, body-reference, ref-tag}
@@ -194,7 +194,7 @@ module _ (s : List ℕ) (capacity : ℕ) (c : Cursor) (b : ℕ) (is : referenceT
             earlier : ℕ → Answer (Value × List ℕ)
             earlier n = require (ltb 0 n && leb n (c .ordinal)) 6 (c .at) >>= λ u. ok (ref reference, drop (x .next) s)
 
-        pub reference-good : (t t′ : List ℕ) (target next : ℕ) (c′ : Cursor) (takes : Bool) → Fit s t capacity c → c .node < capacity → next ≡ x .next → takes ≡ hasOrdinal b → FirstAt t (c .node) (x .content) target
+        pub reference-good : (t t′ : List ℕ) (target next : ℕ) (c′ : Cursor) (takes : Bool) → Fit s t capacity c → c .node < capacity → next ≡ x .next → takes ≡ hasOrdinal b → CarrierIn t 0 (c .node) (x .content) target
             → Placed t t′ c b (record { content = x .content; size = 0; link = target; next = next }) takes c′ → GoodValue s t t′ capacity c (bodyAt s capacity inner b c) c′
         reference-good t t′ target next c′ takes fit room n e found p =
             leaf-good s t t′ capacity c c′ b (record { content = x .content; size = 0; link = target; next = next }) takes fit room p (bodyAt s capacity inner b c) (ref reference)

@@ -12,7 +12,7 @@ use Rattle.decimal.proofs.Decide.{Order, below, above, order}
 use Rattle.decimal.proofs.Stores.{sets-append}
 use Rattle.format.specs.Tree.{one}
 use Rattle.format.specs.Table.{width, taken}
-use Rattle.reader.specs.Nodes.{wordAt, FirstAt}
+use Rattle.reader.specs.Nodes.{wordAt, CarrierIn}
 use Rattle.reader.specs.Steps.{Points, Kept}
 
 -- ---- runs of stores
@@ -129,7 +129,7 @@ module _ (to : ℕ → ℕ) (t : List ℕ) (node ordinal : ℕ) (p : Points to t
   points-place false w e = subst (Points to t (node + 1)) (sym (add-zero ordinal)) (points-skip w)
 
   -- the node found for an ordinal is the one that took it
-  pub link-is : (n r : ℕ) → FirstAt t node n r → 1 ≤ n → n ≤ ordinal → r ≡ to n
+  pub link-is : (n r : ℕ) → CarrierIn t 0 node n r → 1 ≤ n → n ≤ ordinal → r ≡ to n
   link-is n r f a b = go (order r node)
     where
       q : (to n < node) × (wordAt t (to n) 1 ≡ n)
@@ -137,4 +137,4 @@ module _ (to : ℕ → ℕ) (t : List ℕ) (node ordinal : ℕ) (p : Points to t
 
       go : Order r node → r ≡ to n
       go (below l) = p .only n r a l (f .found l)
-      go (above l) = absurd (f .before (to n) (omega (arith, q .0)) (q .1))
+      go (above l) = absurd (f .none l (to n) (omega arith) (q .0) (q .1))

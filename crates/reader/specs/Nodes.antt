@@ -28,8 +28,8 @@ pub record Entered (t t′ : List ℕ) (c : Cursor) (tag : ℕ) (x : Text) (r : 
   pub table : t′ ≡ sets t (c .node * width) (words (nodeOf tag (c .ordinal + 1) 0 x))
   pub cursor : r ≡ record { at = x .next; node = c .node + 1; ordinal = c .ordinal + 1; levels = c .levels - 1 }
 
--- the first of so many nodes that carries the ordinal, or their count
-pub record FirstAt (t : List ℕ) (nodes ordinal r : ℕ) : Type 0 where
-  pub inside : r ≤ nodes
-  pub found : r < nodes → wordAt t r 1 ≡ ordinal
-  pub before : (i : ℕ) → i < r → wordAt t i 1 ≡ ordinal → ⊥
+-- a node from one index up to another that carries the ordinal, or the end where none does
+pub record CarrierIn (t : List ℕ) (from to ordinal r : ℕ) : Type 0 where
+  pub inside : r ≤ to
+  pub found : r < to → wordAt t r 1 ≡ ordinal
+  pub none : to ≤ r → (i : ℕ) → from ≤ i → i < to → wordAt t i 1 ≡ ordinal → ⊥

@@ -1,61 +1,40 @@
 -- `reader::lookup::node_of` meets its contract. Assumes nothing.
-use Prim.Native.Nat.{ℕ, _-_, _≤_, _<_}
+use Prim.Native.Nat.{ℕ, _≤_, _<_}
 use native.Mathlib.Omega.{arith}
+use mathlib.Core.List.{List}
 use mathlib.Core.Path.{_≡_}
-use borrow.Author.Count.{below-more}
-use Rattle.reader.specs.Nodes.{wordAt}
+use borrow.Author.Needs.{needs}
+use Rattle.decimal.proofs.Decide.{Order, below, above, order}
+use Rattle.reader.specs.Nodes.{wordAt, CarrierIn}
 use Rattle.reader.proofs.lookup.node_of.Statement.{statement}
 use Rattle.reader.proofs.lookup.node_of.Tie as tie
 
-abbrev Inv-loop : tie.InvT-loop
-Inv-loop table nodes ordinal i₀ i = (i ≤ nodes) × ((k : ℕ) → k < i → wordAt table k 1 ≡ ordinal → ⊥)
+-- none before the hint and none from there on
+none-at-all : {t : List ℕ} {from nodes n a b : ℕ} → CarrierIn t 0 from n a → from ≤ a → CarrierIn t from nodes n b → nodes ≤ b → CarrierIn t 0 nodes n nodes
+none-at-all {t} {from} {nodes} {n} p h q k = record { inside = omega arith; found = λ l. absurd (omega arith); none = λ _ i _ l e. go i l e (order i from) }
+  where
+    go : (i : ℕ) → i < nodes → wordAt t i 1 ≡ n → Order i from → ⊥
+    go i l e (below m) = p .none h i (omega arith) m e
+    go i l e (above m) = q .none k i m l e
 
-abbrev μ-loop : tie.MeasureT-loop
-μ-loop table nodes ordinal i₀ i = nodes - i
+hint-requires : tie.Need-hint-requires
+hint-requires c κs = search needs
 
-loop-holds : tie.Need-loop-holds Inv-loop μ-loop
-loop-holds c = (omega arith, λ k h. absurd (omega arith))
+scan-requires : tie.Need-scan-requires
+scan-requires c κs = search needs
 
-mul-if1 : tie.Need-mul-if1 Inv-loop μ-loop
-mul-if1 c = omega arith
+returns : tie.Need-returns
+returns c = search needs
 
-add-if1 : tie.Need-add-if1 Inv-loop μ-loop
-add-if1 c = omega arith
+scan-requires-2 : tie.Need-scan-requires-2
+scan-requires-2 c κs = search needs
 
-mul-if1-2 : tie.Need-mul-if1-2 Inv-loop μ-loop
-mul-if1-2 c = omega arith
+returns-2 : tie.Need-returns-2
+returns-2 c = record { inside = omega arith; found = λ h. c .before .scan2 .ensures .found (c .if2 .taken); none = λ h. absurd (omega arith) }
 
-shared-slice-read-if1 : tie.Need-shared-slice-read-if1 Inv-loop μ-loop
-shared-slice-read-if1 c = omega arith
-
-returns : tie.Need-returns Inv-loop μ-loop
-returns c = record { inside = omega arith; found = λ h. c .if1 .taken; before = (c .before .before .before .loop .inv) .1 }
-
-add-i : tie.Need-add-i Inv-loop μ-loop
-add-i c = omega arith
-
-loop-less : tie.Need-loop-less Inv-loop μ-loop
-loop-less c = omega arith
-
-loop-again : tie.Need-loop-again Inv-loop μ-loop
-loop-again c = (omega arith, below-more _ _ ((c .before .before .before .loop .inv) .1) (c .if1 .left))
-
-returns-2 : tie.Need-returns-2 Inv-loop μ-loop
-returns-2 c = record { inside = (c .before .loop .inv) .0; found = λ h. absurd (omega arith); before = (c .before .loop .inv) .1 }
+returns-3 : tie.Need-returns-3
+returns-3 c = none-at-all (c .before .scan2 .ensures) (c .if2 .left) (c .before .before .before .scan .ensures) (c .before .before .if1 .left)
 
 pub node-of-spec : {M : Type 1} → statement M
 node-of-spec =
-    tie.close
-    (tie.spec
-    Inv-loop
-    μ-loop
-    loop-holds
-    mul-if1
-    add-if1
-    mul-if1-2
-    shared-slice-read-if1
-    returns
-    add-i
-    loop-less
-    loop-again
-    returns-2)
+    tie.close (tie.spec hint-requires scan-requires returns scan-requires-2 returns-2 returns-3)
