@@ -4,9 +4,9 @@ use native.Mathlib.Nat.{add-zero, add-suc, zero-add, suc-add}
 use native.Mathlib.Numerals.{add-one}
 use native.Mathlib.Omega.{arith}
 use mathlib.Core.Path.{_≡_, refl, sym, ap, ap₂, _∙_, subst}
-use mathlib.Core.List.{List, [], _∷_, _++_}
+use mathlib.Core.List.{List, [], _∷_, _++_, append-assoc}
 use mathlib.Core.Bool.{Bool, true, false}
-use lib.ListN.{length, getD, take, drop, set, length-set, length-append, drop-of-length-le}
+use lib.ListN.{length, getD, take, drop, set, length-set, length-append, take-append-drop, drop-of-length-le}
 use lib.Seq.{sets, set-out, slice, length-slice, drop-cons, drop-drop, take-nil, getD-take, getD-drop, take-append-seam, drop-append-seam}
 use Rattle.decimal.specs.Digits.{decimal}
 use Rattle.decimal.specs.Promise.{SignedOf}
@@ -38,6 +38,33 @@ within-first t u w h = record { low = omega (arith, h .low, length-append t u) }
 pub within-then : {t u : List ℕ} {w : ℕ} {out : List ℕ} {e : ℕ} {out₁ : List ℕ} → Within (t ++ u) w → Puts t w out e out₁ → Within u e
 within-then {t} {u} h p = record { low = omega (arith, h .low, p .end, length-append t u) }
 
+-- what is left to write, with what was written, is the whole text
+pub record Owes (all : List ℕ) (w₀ : ℕ) (out₀ left : List ℕ) (w : ℕ) (out : List ℕ) : Type 0 where
+  pub same : length out ≡ length out₀
+  pub end : w + length left ≡ w₀ + length all
+  pub text : sets out w left ≡ sets out₀ w₀ all
+
+pub owes-all : (all : List ℕ) (w : ℕ) (out : List ℕ) → Owes all w out all w out
+owes-all all w out = record { same = refl; end = refl; text = refl }
+
+module _ {all : List ℕ} {w₀ : ℕ} {out₀ left : List ℕ} {w : ℕ} {out : List ℕ} (o : Owes all w₀ out₀ left w out) where
+  pub owes-as : {left′ : List ℕ} → left ≡ left′ → Owes all w₀ out₀ left′ w out
+  owes-as e = subst (λ (l : List ℕ). Owes all w₀ out₀ l w out) e o
+
+  pub owes-none : left ≡ [] → Puts all w₀ out₀ w out
+  owes-none e = record { end = omega (arith, o .end, ap length e); text = sym (ap (sets out w) e) ∙ o .text }
+
+  pub owes-within : (t u : List ℕ) → left ≡ t ++ u → Within all w₀ → Within t w
+  owes-within t u e h = record { low = omega (arith, o .end, h .low, ap length e, length-append t u) }
+
+  -- one part more
+  pub owes-more : {t : List ℕ} (u : List ℕ) → left ≡ t ++ u → {e : ℕ} {out′ : List ℕ} → Puts t w out e out′ → length out′ ≡ length out → Owes all w₀ out₀ u e out′
+  owes-more {t} u i {e} p k = record {
+    same = k ∙ o .same;
+    end = omega (arith, p .end, o .end, ap length i, length-append t u);
+    text = ap (λ (l : List ℕ). sets l e u) (p .text) ∙ sets-append t u out w e (p .end) ∙ ap (sets out w) (sym i) ∙ o .text;
+  }
+
 -- ---- parts of the source
 
 slice-at : (s : List ℕ) (from to i : ℕ) → i < to - from → getD (slice from to s) i 0 ≡ getD s (from + i) 0
@@ -55,6 +82,20 @@ slice-of s at a b c e from to f t =
     ∙ drop-take from (length b) s
     ∙ ap (take (length b)) (ap (λ (n : ℕ). drop n s) f ∙ sym (drop-drop (length a) at s) ∙ ap (drop (length a)) e ∙ drop-append-seam a (b ++ c))
     ∙ take-append-seam b c
+
+part-and-rest : (from to : ℕ) (s : List ℕ) → from ≤ to → drop from s ≡ slice from to s ++ drop to s
+part-and-rest from to s h =
+    let n : ℕ = to - from in
+    let e : from + n ≡ to = omega arith in
+    sym (take-append-drop n (drop from s))
+    ∙ ap₂ _++_ (sym (drop-take from n s) ∙ ap (λ (k : ℕ). slice from k s) e) (drop-drop n from s ∙ ap (λ (k : ℕ). drop k s) e)
+
+-- a part and the next one
+pub slice-join : (a b c : ℕ) (s : List ℕ) → a ≤ b → b ≤ c → c ≤ length s → slice a b s ++ slice b c s ≡ slice a c s
+slice-join a b c s h i j =
+    let l : List ℕ = slice a b s ++ slice b c s in
+    let e : drop a s ≡ l ++ drop c s = part-and-rest a b s h ∙ ap (λ (r : List ℕ). slice a b s ++ r) (part-and-rest b c s i) ∙ sym (append-assoc (slice a b s) (slice b c s) (drop c s)) in
+    sym (slice-of s a [] l (drop c s) e a c (sym (add-zero a)) (omega (arith, length-append (slice a b s) (slice b c s), length-slice a b s (omega arith), length-slice b c s j)))
 
 -- ---- copying
 

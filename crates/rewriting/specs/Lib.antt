@@ -1,4 +1,5 @@
 pub mod Output
 pub mod Shortest
 pub mod Rewriting
+pub mod Stretches
 pub mod Edited

@@ -11,6 +11,7 @@ pub mod inserted;
 mod output;
 mod rewrite;
 mod shortest;
+mod stretch;
 
 // A plan's length, and so that of a text which a plan can hold.
 const SOURCE_LIMIT: usize = 65536;

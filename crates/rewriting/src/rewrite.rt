@@ -2,13 +2,13 @@
 use crate::output::copy;
 use crate::shortest::numbered;
 use crate::shortest::shortest;
-use format::kind::Kind;
-use scanner::Scan;
+use crate::stretch::Stop;
+use crate::stretch::stretch;
 use scanner::Text;
-use tokens::in_line;
 ghost use Rattle.rewriting.specs.Output.{Within, Puts};
 ghost use Rattle.rewriting.specs.Shortest.{Bounds};
-ghost use Rattle.rewriting.specs.Rewriting.{Named, raisedText, respelledText, rewrittenText};
+ghost use Rattle.rewriting.specs.Stretches.{Changes};
+ghost use Rattle.rewriting.specs.Rewriting.{Named, respelledText, rewrittenText};
 
 // What becomes of a token: it is written in canonical spelling; or a reference to an ordinal from this one on names the next, in shortest form, and all else is copied.
 pub enum Change {
@@ -16,33 +16,17 @@ pub enum Change {
     Raise(u64),
 }
 
-// The token at an index, whose text is known, with a reference raised.
-fn raise(source: &[u8], at: usize, text: Text, from: u64, out: &mut [u8], w: usize) -> usize
-    requires { ⌜ Bounds (now source) at text × Named (now source) at text × Within (raisedText from (now source) at text) w ⌝ }
-    ensures { λ r. ⌜ Puts (raisedText from (now (source .entry)) at text) w (now (out .entry)) r (now (out .exit)) ⌝ }
-{
-    let tag = source[at];
-    let next = text.next;
-    match tag {
-        Kind::OBJECT_REFERENCE | Kind::VARIABLE_REFERENCE => {
-            let named = text.content;
-            if from <= named {
-                return numbered(source, at, named + 1, next - 1, next, out, w);
-            }
-            copy(source, at, next, out, w)
-        }
-        _ => copy(source, at, next, out, w),
-    }
-}
-
-// The token at an index, whose text is known, changed.
+// The token at an index, whose text is known, changed: in canonical spelling, or a reference raised.
 fn respell(source: &[u8], at: usize, text: Text, change: Change, out: &mut [u8], w: usize) -> usize
-    requires { ⌜ Bounds (now source) at text × Named (now source) at text × Within (respelledText change (now source) at text) w ⌝ }
+    requires { ⌜ Bounds (now source) at text × Named (now source) at text × Changes change (now source) at text × Within (respelledText change (now source) at text) w ⌝ }
     ensures { λ r. ⌜ Puts (respelledText change (now (source .entry)) at text) w (now (out .entry)) r (now (out .exit)) ⌝ }
 {
     match change {
         Change::Canonical => shortest(source, at, text, out, w),
-        Change::Raise(from) => raise(source, at, text, from, out, w),
+        Change::Raise(_) => {
+            let next = text.next;
+            numbered(source, at, text.content + 1, next - 1, next, out, w)
+        }
     }
 }
 
@@ -58,15 +42,19 @@ pub(crate) fn rewrite(
     requires { ⌜ Within (rewrittenText change (now source) from to) w ⌝ }
     ensures { λ r. ⌜ Puts (rewrittenText change (now (source .entry)) from to) w (now (out .entry)) r (now (out .exit)) ⌝ }
 {
-    let mut at = from;
-    let mut end = w;
-    while at < to {
-        let scan = in_line(source, at);
-        let Scan::Is(text) = scan else {
-            return end;
-        };
-        end = respell(source, at, text, change, out, end);
-        at = text.next;
+    if source.len() < from {
+        return w;
     }
-    end
+    let mut kept = from;
+    let mut end = w;
+    loop {
+        match stretch(source, kept, to, change) {
+            Stop::End(at) => return copy(source, kept, at, out, end),
+            Stop::Token { at, text } => {
+                let start = copy(source, kept, at, out, end);
+                end = respell(source, at, text, change, out, start);
+                kept = text.next;
+            }
+        }
+    }
 }

@@ -40,6 +40,43 @@ upto-unfit (suc n) behind s c l e = by (order behind (length s))
     by (below h) = ap (step n behind s) (lt-ltb behind (length s) h) ∙ ap (nextOf (tokensUpTo n behind)) e
     by (above h) = upto-end (suc n) behind s h
 
+-- ---- more steps than bytes change nothing
+
+next-same : (f g : List ℕ → List Token) (s : List ℕ) (a : Answer (Token × List ℕ)) → readToken 0 s ≡ a → ((r : List ℕ) → length r < length s → f r ≡ g r) → nextOf f a ≡ nextOf g a
+next-same f g s (ok (t, r)) e h =
+    let g₁ = token-read 0 s (t, r) e in
+    ap {B = List Token} (λ ts. t ∷ ts) (h r (omega (arith, ap length (g₁ .0), token-longer t r)))
+next-same f g s (refused c at) e h = refl
+
+steps-same : (m n behind : ℕ) (s : List ℕ) → length s ≤ m → length s ≤ n → tokensUpTo m behind s ≡ tokensUpTo n behind s
+steps-same zero n behind s h k = sym (upto-end n behind s (omega arith))
+steps-same (suc m) zero behind s h k = upto-end (suc m) behind s (omega arith)
+steps-same (suc m) (suc n) behind s h k = by (ltb behind (length s)) (next-same (tokensUpTo m behind) (tokensUpTo n behind) s (readToken 0 s) refl (λ r i. steps-same m n behind r (omega arith) (omega arith)))
+  where
+    by : (b : Bool) → step m behind s true ≡ step n behind s true → step m behind s b ≡ step n behind s b
+    by true e = e
+    by false e = refl
+
+module _ (s : List ℕ) (at to : ℕ) where
+  pub between-more : (t : Token) (next : ℕ) → at < to → at < length s → readToken 0 (drop at s) ≡ ok (t, drop next s) → tokensBetween s at to ≡ t ∷ tokensBetween s next to
+  unfolding tokensBetween
+  between-more t next h i e =
+      let b : ℕ = length (drop to s) in
+      steps-same (length s) (suc (length s)) b (drop at s) (omega (arith, length-drop at s)) (omega (arith, length-drop at s))
+      ∙ upto-more (length s) b (drop at s) t (drop next s) (omega (arith, length-drop at s, length-drop to s)) e
+
+  pub between-end : to ≤ at → tokensBetween s at to ≡ []
+  unfolding tokensBetween
+  between-end h = upto-end (length s) (length (drop to s)) (drop at s) (omega (arith, length-drop at s, length-drop to s))
+
+  pub between-outside : length s ≤ at → tokensBetween s at to ≡ []
+  unfolding tokensBetween
+  between-outside h = upto-end (length s) (length (drop to s)) (drop at s) (omega (arith, length-drop at s))
+
+  pub between-unfit : (c l : ℕ) → readToken 0 (drop at s) ≡ refused c l → tokensBetween s at to ≡ []
+  unfolding tokensBetween
+  between-unfit c l e = upto-unfit (length s) (length (drop to s)) (drop at s) c l e
+
 -- ---- a stretch
 
 upto-all : (n : ℕ) (ts : List Token) (r : List ℕ) → AllFit ts → length (writeTokens ts r) ≤ n → tokensUpTo n (length r) (writeTokens ts r) ≡ ts

@@ -2,10 +2,8 @@
 use format::kind::Kind;
 use scanner::Scan;
 use scanner::Text;
-use scanner::flag::null;
 use scanner::head::array;
 use scanner::head::object;
-use scanner::number::int;
 use scanner::number::named;
 use scanner::scalar::scalar;
 ghost use Rattle.scanner.specs.Scans.{Answers};
@@ -32,20 +30,5 @@ pub fn token(source: &[u8], at: usize) -> Scan
         Kind::OBJECT => return object(source, at + 1),
         Kind::OBJECT_REFERENCE | Kind::VARIABLE_REFERENCE => return named(source, at + 1),
         _ => return scalar(source, at + 1, tag),
-    }
-}
-
-// The same; the texts of an N and an i are scanned in line.
-pub fn in_line(source: &[u8], at: usize) -> Scan
-    ensures { λ r. ⌜ Answers readToken (tokenTold at) (now (source .entry)) at r ⌝ }
-{
-    if source.len() <= at {
-        return Scan::Not(2);
-    }
-    let tag = source[at];
-    match tag {
-        Kind::NULL => null(source, at + 1),
-        Kind::INT => int(source, at + 1),
-        _ => token(source, at),
     }
 }

@@ -1,50 +1,74 @@
 -- `rewriting::rewrite::rewrite` meets its contract. Assumes nothing.
 use native.Mathlib.Omega.{arith}
 use Prim.Native.Nat.{_-_}
-use Rattle.scanner.proofs.Numbers.{found-of}
-use Rattle.rewriting.proofs.Rewritten as rewritten
+use lib.ListN.{length}
 use borrow.Author.Needs.{needs}
+use Rattle.rewriting.proofs.Rewritten as rewritten
 use Rattle.rewriting.proofs.rewrite.rewrite.Statement.{statement}
 use Rattle.rewriting.proofs.rewrite.rewrite.Tie as tie
 
 abbrev Inv-loop : tie.InvT-loop
-Inv-loop source from to change out₀ w at₀ end₀ out at end = rewritten.Rewriting source from to change w out₀ at end out
+Inv-loop source from to change out₀ w kept₀ end₀ out kept end = rewritten.Rewriting source from to change w out₀ kept end out
 
 abbrev μ-loop : tie.MeasureT-loop
-μ-loop source from to change out₀ w at₀ end₀ out at end = to - at
-
-loop-holds : tie.Need-loop-holds Inv-loop μ-loop
-loop-holds c = rewritten.rewriting-none _ _ _ _ _ _
-
-in-line-requires : tie.Need-in-line-requires Inv-loop μ-loop
-in-line-requires c κs = search needs
-
-enum-known-scan : tie.Need-enum-known-scan Inv-loop μ-loop
-enum-known-scan c = search needs
-
-enum-told : tie.Need-enum-told Inv-loop μ-loop
-enum-told c = search needs
-
-same-length : tie.Need-same-length Inv-loop μ-loop
-same-length c = (c .before .before .before .before .loop .inv) .same
+μ-loop source from to change out₀ w kept₀ end₀ out kept end = length source - kept
 
 returns : tie.Need-returns Inv-loop μ-loop
-returns c = rewritten.rewriting-unfit (c .before .before .before .before .loop .inv) _ _ (c .before .before .in-line .ensures .scans) (c .enum-told .given .1)
+returns c = rewritten.nothing-outside _ _ _ (c .before .before .before .args .change) _ _ (omega (arith, c .if1 .taken))
 
-respell-requires : tie.Need-respell-requires Inv-loop μ-loop
-respell-requires c κs = rewritten.next-bounds (c .before .before .before .before .before .before .loop .inv) (c .before .before .before .before .before .loop-test .taken) _ (found-of (c .before .before .before .before .in-line .ensures .scans) (c .before .before .scan .given .1)) (c .before .before .before .before .before .before .before .before .before .pre)
+loop-holds : tie.Need-loop-holds Inv-loop μ-loop
+loop-holds c = rewritten.rewriting-none _ _ _ _ _ _ (c .if1 .left)
 
-loop-less : tie.Need-loop-less Inv-loop μ-loop
-loop-less c = omega (arith, (found-of (c .before .before .before .before .before .before .before .in-line .ensures .scans) (c .before .before .before .before .before .scan .given .1)) .on, (c .before .before .before .before .before .before .before .before .loop-test .taken))
+stretch-requires : tie.Need-stretch-requires Inv-loop μ-loop
+stretch-requires c κs = c .loop .inv .inside
 
-loop-again : tie.Need-loop-again Inv-loop μ-loop
-loop-again c = rewritten.rewriting-more (c .before .before .before .before .before .before .before .before .before .loop .inv) (c .before .before .before .before .before .before .before .before .loop-test .taken) _ (found-of (c .before .before .before .before .before .before .before .in-line .ensures .scans) (c .before .before .before .before .before .scan .given .1)) _ _ (c .before .before .respell .ensures) (c .before .before .respell .kept .1 .1 .1 .1 .0)
+enum-known-at : tie.Need-enum-known-at Inv-loop μ-loop
+enum-known-at c = search needs
 
-same-length-2 : tie.Need-same-length-2 Inv-loop μ-loop
-same-length-2 c = (c .before .loop .inv) .same
+copy-requires : tie.Need-copy-requires Inv-loop μ-loop
+copy-requires c κs =
+    let found = c .before .before .before .before in
+    let stop = rewritten.ended-of (found .stretch .ensures) (c .before .before .at .given .1) in
+    rewritten.stretch-bounds (found .before .loop .inv) (stop .0) (found .before .before .before .before .before .pre)
+
+same-length : tie.Need-same-length Inv-loop μ-loop
+same-length c = search needs
 
 returns-2 : tie.Need-returns-2 Inv-loop μ-loop
-returns-2 c = rewritten.rewriting-all (c .before .loop .inv) (c .loop-test .left)
+returns-2 c =
+    let found = c .before .before .before .before .before .before .before in
+    let stop = rewritten.ended-of (found .stretch .ensures) (c .before .before .before .before .before .at .given .1) in
+    rewritten.rewriting-all (found .before .loop .inv) (stop .0) (c .before .before .copy .ensures) (c .before .before .copy .kept .1 .1 .1 .0) (stop .1)
+
+enum-known-at-2 : tie.Need-enum-known-at-2 Inv-loop μ-loop
+enum-known-at-2 c = search needs
+
+copy-requires-2 : tie.Need-copy-requires-2 Inv-loop μ-loop
+copy-requires-2 c κs =
+    let found = c .before .before .before .before in
+    let stop = rewritten.halted-of (found .stretch .ensures) (c .before .before .at2 .given .1) in
+    rewritten.stretch-bounds (found .before .loop .inv) (stop .0) (found .before .before .before .before .before .pre)
+
+respell-requires : tie.Need-respell-requires Inv-loop μ-loop
+respell-requires c κs =
+    let copied = c .before .before .before in
+    let found = c .before .before .before .before .before .before .before .before in
+    let stop = rewritten.halted-of (found .stretch .ensures) (c .before .before .before .before .before .before .at2 .given .1) in
+    rewritten.token-bounds (found .before .loop .inv) (stop .0) (copied .copy2 .ensures) (copied .copy2 .kept .1 .1 .1 .0) (stop .1) (found .before .before .before .before .before .pre)
+
+loop-less : tie.Need-loop-less Inv-loop μ-loop
+loop-less c =
+    let found = c .before .before .before .before .before .before .before .before .before .before .before in
+    let stop = rewritten.halted-of (found .stretch .ensures) (c .before .before .before .before .before .before .before .before .before .at2 .given .1) in
+    omega (arith, stop .0 .on, stop .1 .found .on, stop .1 .found .inside)
+
+loop-again : tie.Need-loop-again Inv-loop μ-loop
+loop-again c =
+    let spelled = c .before .before in
+    let copied = c .before .before .before .before .before .before in
+    let found = c .before .before .before .before .before .before .before .before .before .before .before in
+    let stop = rewritten.halted-of (found .stretch .ensures) (c .before .before .before .before .before .before .before .before .before .at2 .given .1) in
+    rewritten.rewriting-more (found .before .loop .inv) (stop .0) (copied .copy2 .ensures) (copied .copy2 .kept .1 .1 .1 .0) (stop .1) (spelled .respell .ensures) (spelled .respell .kept .1 .1 .1 .1 .0)
 
 pub rewrite-spec : {M : Type 1} → statement M
 rewrite-spec =
@@ -52,14 +76,15 @@ rewrite-spec =
     (tie.spec
     Inv-loop
     μ-loop
-    loop-holds
-    in-line-requires
-    enum-known-scan
-    enum-told
-    same-length
     returns
+    loop-holds
+    stretch-requires
+    enum-known-at
+    copy-requires
+    same-length
+    returns-2
+    enum-known-at-2
+    copy-requires-2
     respell-requires
     loop-less
-    loop-again
-    same-length-2
-    returns-2)
+    loop-again)

@@ -1,11 +1,11 @@
--- `tokens::in_line` meets its contract. Assumes nothing.
+-- `rewriting::stretch::token_at` meets its contract. Assumes nothing.
 use native.Mathlib.Omega.{arith}
 use mathlib.Core.Path.{refl}
 use Rattle.scanner.proofs.Numbers.{answered}
 use Rattle.tokens.proofs.Scanned as scanned
 use borrow.Author.Needs.{needs}
-use Rattle.tokens.proofs.in_line.Statement.{statement}
-use Rattle.tokens.proofs.in_line.Tie as tie
+use Rattle.rewriting.proofs.stretch.token_at.Statement.{statement}
+use Rattle.rewriting.proofs.stretch.token_at.Tie as tie
 
 returns : tie.Need-returns
 returns c = answered (scanned.token-none _ _ (c .if1 .taken))
@@ -37,8 +37,8 @@ returns-3 c = answered (scanned.token-int _ _ _ (omega (arith, c .before .before
 returns-4 : tie.Need-returns-4
 returns-4 c = c .token .ensures
 
-pub in-line-spec : {M : Type 1} → statement M
-in-line-spec =
+pub token-at-spec : {M : Type 1} → statement M
+token-at-spec =
     tie.close
     (tie.spec
     returns

@@ -1,0 +1,180 @@
+-- A token that stays as it is, by its tag and its first digits. Assumes nothing.
+use Prim.Native.Nat.{ℕ, zero, suc, _+_, _≤_, _<_}
+use native.Mathlib.Omega.{arith}
+use mathlib.Core.Path.{_≡_, refl, sym, ap, _∙_, subst}
+use mathlib.Core.Logic.{_⊎_, inl, inr, ⊎-elim}
+use mathlib.Core.Bool.{Bool, true, false}
+use mathlib.Core.List.{List, [], _∷_, _++_}
+use lib.Dec.{T, ltb}
+use lib.ListN.{length, getD, drop, length-append, length-drop}
+use lib.Seq.{slice, getD-drop}
+use borrow.Author.Tests.{ltb-true, ltb-false}
+use Rattle.decimal.specs.Digits.{isDigit, spelled}
+use Rattle.decimal.proofs.Decide.{and-left}
+use Rattle.decimal.proofs.Numerals.{areDigits, digit-high, decimal-small, decimal-some, spelled-digits, spelled-some}
+use Rattle.format.specs.Bytes.{byte}
+use Rattle.format.specs.Kind.{Kind, tag}
+use Rattle.format.specs.Syntax.{null, bool, int, float, string, array, object, Spelling, Sign, unsigned, plus, minus, Literal, Container, writeNumber, writeSign}
+use Rattle.format.specs.Canonical.{shortestSign}
+use Rattle.format.proofs.Fronts.{number-length}
+use Rattle.scanner.specs.declared.Text.{Text}
+use Rattle.scanner.specs.Scans.{Found}
+use Rattle.tokens.specs.Tokens.{Token, scalar, reference, opening, closing, ReferenceTag, readToken, tokenTold, writeToken, canonicalToken}
+use Rattle.tokens.proofs.Standing.{Stands, first-byte, found-stands}
+use Rattle.rewriting.specs.declared.rewrite.Change.{Change}
+use Rattle.rewriting.specs.Shortest.{shortestText}
+use Rattle.rewriting.specs.Rewriting.{respelledText}
+use Rattle.rewriting.specs.Stretches as stretches
+use Rattle.rewriting.specs.Stretches.{ShortestFront, Changes, Stays}
+use Rattle.rewriting.proofs.Spelled.{as-canonical, as-raised, raised-low, raised-other}
+use Rattle.rewriting.proofs.Respelled.{whole, respelled}
+
+-- ---- digits
+
+first-digit : (ds r : List ℕ) → 0 < length ds → T (areDigits ds) → getD (ds ++ r) 0 0 ≤ 57
+first-digit [] r h t = absurd (omega arith)
+first-digit (b ∷ ds) r h t = digit-high b (and-left (isDigit b) (areDigits ds) t)
+
+spelled-first : (z n : ℕ) (r : List ℕ) → getD (spelled z n ++ r) 0 0 ≤ 57
+spelled-first z n r = first-digit (spelled z n) r (spelled-some z n) (spelled-digits z n)
+
+-- a run that begins with another digit than 0 has no leading zeros, and is not zero
+no-zero : (z n : ℕ) (r : List ℕ) → 49 ≤ getD (spelled z n ++ r) 0 0 → (z ≡ 0) × (0 < n)
+no-zero (suc z) n r h = absurd (omega (arith, h))
+no-zero zero zero r h = absurd (omega (arith, h, ap (λ (l : List ℕ). getD (l ++ r) 0 0) (decimal-small 0 (omega arith))))
+no-zero zero (suc n) r h = (refl, omega arith)
+
+-- A NUMBER BY ITS FIRST TWO BYTES
+no-zeros : (z n : ℕ) (r : List ℕ) → ShortestFront (getD (spelled z n ++ r) 0 0) (getD (spelled z n ++ r) 1 0) → z ≡ 0
+no-zeros zero n r f = refl
+no-zeros (suc z) n r (stretches.digit h) = absurd (omega (arith, h))
+no-zeros (suc z) n r (stretches.alone h) = absurd (omega (arith, h, spelled-first z n r))
+no-zeros (suc z) n r (stretches.minus h i) = absurd (omega (arith, h))
+
+-- AND AN INTEGER
+shortest-integer : (g : Sign) (z n : ℕ) (r : List ℕ) → ShortestFront (getD (writeSign g (spelled z n ++ r)) 0 0) (getD (writeSign g (spelled z n ++ r)) 1 0) → (shortestSign g n ≡ g) × (z ≡ 0)
+shortest-integer unsigned z n r f = (refl, no-zeros z n r f)
+shortest-integer plus z n r (stretches.digit h) = absurd (omega (arith, h))
+shortest-integer plus z n r (stretches.alone h) = absurd (omega (arith, h, spelled-first z n r))
+shortest-integer plus z n r (stretches.minus h i) = absurd (omega (arith, h))
+shortest-integer minus z n r (stretches.digit h) = absurd (omega (arith, h))
+shortest-integer minus z n r (stretches.alone h) = absurd (omega (arith, h, spelled-first z n r))
+shortest-integer minus z n r (stretches.minus h i) = let p = no-zero z n r i in (signed n (p .1), p .0)
+  where
+    signed : (n : ℕ) → 0 < n → shortestSign minus n ≡ minus
+    signed zero h = absurd (omega arith)
+    signed (suc n) h = refl
+
+-- ---- the token that stands at an index
+
+-- N, b, d and the closing brace, in the order of their bytes: no number follows
+abbrev Plain : ℕ → Type 0
+Plain b = (b ≡ tag Kind.null) ⊎ ((b ≡ tag Kind.bool) ⊎ ((b ≡ tag Kind.float) ⊎ (b ≡ byte "}")))
+
+module _ (s : List ℕ) (at : ℕ) (x : Text) where
+  -- the bytes behind a tag and its colon
+  behind : (b : ℕ) (l : List ℕ) → drop at s ≡ b ∷ 58 ∷ l → ShortestFront (getD s (at + 2) 0) (getD s (at + 3) 0) → ShortestFront (getD l 0 0) (getD l 1 0)
+  behind b l e f =
+      subst (λ (j : ℕ). ShortestFront (getD l 0 0) j) (sym (getD-drop at s 3 0) ∙ ap (λ (m : List ℕ). getD m 3 0) e)
+      (subst (λ (i : ℕ). ShortestFront i (getD s (at + 3) 0)) (sym (getD-drop at s 2 0) ∙ ap (λ (m : List ℕ). getD m 2 0) e) f)
+
+  plain-text : Plain (getD s at 0) → shortestText s at x ≡ slice at (x .next) s
+  unfolding shortestText
+  plain-text o = ⊎-elim (λ i. rw i) (λ o. ⊎-elim (λ i. rw i) (λ o. ⊎-elim (λ i. rw i) (λ i. rw i) o) o) o
+
+  module _ (n : getD s at 0 ≡ tag Kind.object → ⊥) where
+    same-opening : (c : Container) (w : Spelling) (k : ℕ) → Stands s at (opening (record { container = c; spelling = w }) k) x → ShortestFront (getD s (at + 2) 0) (getD s (at + 3) 0)
+        → canonicalToken (opening (record { container = c; spelling = w }) k) ≡ opening (record { container = c; spelling = w }) k
+    same-opening array w k st f = ap (λ (z : ℕ). opening (record { container = array; spelling = record { zeros = z } }) k) (sym (no-zeros (w .zeros) k _ (behind 97 _ (st .written) f)))
+    same-opening (object q) w k st f = absurd (n (first-byte s at 79 _ (st .written)))
+
+    same-token : (t : Token) → Stands s at t x → ShortestFront (getD s (at + 2) 0) (getD s (at + 3) 0) → canonicalToken t ≡ t
+    same-token (scalar null) st f = refl
+    same-token (scalar (bool b)) st f = refl
+    same-token (scalar (int i)) st f =
+        let p = shortest-integer (i .sign) (i .zeros) (i .magnitude) _ (behind 105 _ (st .written) f) in
+        ap (λ (g : Sign). scalar (int (record { sign = g; zeros = 0; magnitude = i .magnitude }))) (p .0)
+        ∙ ap (λ (z : ℕ). scalar (int (record { sign = i .sign; zeros = z; magnitude = i .magnitude }))) (sym (p .1))
+    same-token (scalar (float t)) st f = refl
+    same-token (scalar (string q)) st f = ap (λ (z : ℕ). scalar (string (record { spelling = record { zeros = z }; text = q .text }))) (sym (no-zeros (q .spelling .zeros) (length (q .text)) _ (behind 115 _ (st .written) f)))
+    same-token (reference r) st f = ap (λ (z : ℕ). reference (record { kind = r .kind; spelling = record { zeros = z }; named = r .named })) (sym (no-zeros (r .spelling .zeros) (r .named) _ (behind _ _ (st .written) f)))
+    same-token (opening h k) st f = same-opening (h .container) (h .spelling) k st f
+    same-token closing st f = refl
+
+  -- ---- a number has a digit, and a byte behind it
+
+  inside-number : (b : ℕ) (w : Spelling) (k c : ℕ) (r : List ℕ) → drop at s ≡ b ∷ 58 ∷ writeNumber w k (c ∷ r) → at + 4 ≤ length s
+  inside-number b w k c r e = omega (arith, length-drop at s, ap length e, number-length w k (c ∷ r), decimal-some k)
+
+  module _ (p : Plain (getD s at 0) → ⊥) (n : getD s at 0 ≡ tag Kind.object → ⊥) where
+    plain-not : (b : ℕ) (r : List ℕ) → drop at s ≡ b ∷ r → Plain b → ⊥
+    plain-not b r e q = p (subst Plain (sym (first-byte s at b r e)) q)
+
+    inside-opening : (c : Container) (w : Spelling) (k : ℕ) → Stands s at (opening (record { container = c; spelling = w }) k) x → at + 4 ≤ length s
+    inside-opening array w k st = inside-number 97 w k 58 _ (st .written)
+    inside-opening (object q) w k st = absurd (n (first-byte s at 79 _ (st .written)))
+
+    inside-int : (i : Literal) (r : List ℕ) → drop at s ≡ 105 ∷ 58 ∷ writeSign (i .sign) (spelled (i .zeros) (i .magnitude) ++ (59 ∷ r)) → at + 4 ≤ length s
+    inside-int i r e = omega (arith, length-drop at s, ap length e, signed (i .sign))
+      where
+        signed : (g : Sign) → 2 ≤ length (writeSign g (spelled (i .zeros) (i .magnitude) ++ (59 ∷ r)))
+        signed unsigned = omega (arith, spelled-some (i .zeros) (i .magnitude), length-append (spelled (i .zeros) (i .magnitude)) (59 ∷ r))
+        signed plus = omega (arith, spelled-some (i .zeros) (i .magnitude), length-append (spelled (i .zeros) (i .magnitude)) (59 ∷ r))
+        signed minus = omega (arith, spelled-some (i .zeros) (i .magnitude), length-append (spelled (i .zeros) (i .magnitude)) (59 ∷ r))
+
+    inside-token : (t : Token) → Stands s at t x → at + 4 ≤ length s
+    inside-token (scalar null) st = absurd (plain-not 78 _ (st .written) (inl refl))
+    inside-token (scalar (bool b)) st = absurd (plain-not 98 _ (st .written) (inr (inl refl)))
+    inside-token (scalar (int i)) st = inside-int i _ (st .written)
+    inside-token (scalar (float t)) st = absurd (plain-not 100 _ (st .written) (inr (inr (inl refl))))
+    inside-token (scalar (string q)) st = inside-number 115 (q .spelling) (length (q .text)) 58 _ (st .written)
+    inside-token (reference r) st = inside-number _ (r .spelling) (r .named) 59 _ (st .written)
+    inside-token (opening h k) st = inside-opening (h .container) (h .spelling) k st
+    inside-token closing st = absurd (plain-not 125 _ (st .written) (inr (inr (inr refl))))
+
+    pub number-inside : Found readToken (tokenTold at) s at x → at + 4 ≤ length s
+    number-inside f = inside-token (f .what) (found-stands s at x f)
+
+-- ---- whether it stays
+
+differ : true ≡ false → ⊥
+differ e = let z : _≡_ {A = ℕ} 0 1 = cc in omega arith
+
+module _ {c : Change} (s : List ℕ) (at : ℕ) (x : Text) where
+  does-stay : respelledText c s at x ≡ slice at (x .next) s → Stays c s at x true
+  does-stay e = record { kept = λ i. e; changes = λ i. absurd (differ i) }
+
+  -- canonical text: nothing is asked of a token that is written again
+  rewritten-whatever : c ≡ Change.Canonical → Changes c s at x
+  rewritten-whatever e = record { raises = λ k i. absurd (never k (sym e ∙ i)) }
+    where
+      never : (k : ℕ) → Change.Canonical ≡ Change.Raise k → ⊥
+      never k j = let z : _≡_ {A = ℕ} 0 1 = cc in omega arith
+
+  pub plain-stays : c ≡ Change.Canonical → Plain (getD s at 0) → Stays c s at x true
+  plain-stays e p = does-stay (as-canonical s at x e ∙ plain-text s at x p)
+
+  pub object-changes : c ≡ Change.Canonical → Stays c s at x false
+  object-changes e = record { kept = λ i. absurd (differ (sym i)); changes = λ i. rewritten-whatever e }
+
+  pub number-stays : Found readToken (tokenTold at) s at x → c ≡ Change.Canonical → (getD s at 0 ≡ tag Kind.object → ⊥) → (r : Bool) → (r ≡ true → ShortestFront (getD s (at + 2) 0) (getD s (at + 3) 0)) → Stays c s at x r
+  number-stays f e n r g = record { kept = λ i. same (g i); changes = λ i. rewritten-whatever e }
+    where
+      st : Stands s at (f .what) x
+      st = found-stands s at x f
+
+      same : ShortestFront (getD s (at + 2) 0) (getD s (at + 3) 0) → respelledText c s at x ≡ slice at (x .next) s
+      same h = as-canonical s at x e ∙ respelled s at x (f .what) st ∙ ap (λ (t : Token). writeToken t []) (same-token s at x n (f .what) st h) ∙ sym (whole s at x (f .what) st)
+
+  module _ {k : ℕ} (e : c ≡ Change.Raise k) where
+    pub reference-stays : ReferenceTag (getD s at 0) → Stays c s at x (ltb (x .content) k)
+    reference-stays o = record {
+      kept = λ i. as-raised s at x e ∙ raised-low k s at x o (ltb-true (x .content) k i);
+      changes = λ i. record { raises = λ m j. (o, omega (arith, ltb-false (x .content) k i, one (sym e ∙ j))) };
+    }
+      where
+        one : {m : ℕ} → Change.Raise k ≡ Change.Raise m → k ≡ m
+        one j = cc
+
+    pub other-stays : (ReferenceTag (getD s at 0) → ⊥) → Stays c s at x true
+    other-stays n = does-stay (as-raised s at x e ∙ raised-other k s at x n)

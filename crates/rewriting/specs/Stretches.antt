@@ -1,0 +1,52 @@
+-- Tokens that stay as they are, one behind another.
+use mathlib.Core.Path.{_≡_}
+use mathlib.Core.List.{List, [], _++_}
+use mathlib.Core.Bool.{Bool, true, false}
+use Prim.Native.Nat.{ℕ, _≤_, _<_}
+use lib.ListN.{length, getD}
+use lib.Seq.{slice}
+use Rattle.format.specs.Bytes.{byte}
+use Rattle.scanner.specs.declared.Text.{Text}
+use Rattle.scanner.specs.Scans.{Found}
+use Rattle.tokens.specs.Tokens.{readToken, tokenTold, ReferenceTag}
+use Rattle.rewriting.specs.declared.rewrite.Change.{Change}
+use Rattle.rewriting.specs.declared.stretch.Stop.{Stop}
+use Rattle.rewriting.specs.Rewriting.{respelledText, rewrittenText}
+
+-- the first two bytes of a number or an integer tell that it is in shortest form: a digit other than 0; a digit and no more; a minus and a digit other than 0
+pub data ShortestFront (first second : ℕ) : Type 0 where
+  digit : byte "1" ≤ first → ShortestFront first second
+  alone : byte "9" < second → ShortestFront first second
+  minus : first ≡ byte "-" → byte "1" ≤ second → ShortestFront first second
+
+-- ---- one token
+
+-- it is written again: where references are raised, it is one that is
+pub record Changes (c : Change) (s : List ℕ) (at : ℕ) (x : Text) : Type 0 where
+  pub raises : (k : ℕ) → c ≡ Change.Raise k → ReferenceTag (getD s at 0) × (k ≤ x .content)
+
+pub record Stays (c : Change) (s : List ℕ) (at : ℕ) (x : Text) (r : Bool) : Type 0 where
+  pub kept : r ≡ true → respelledText c s at x ≡ slice at (x .next) s
+  pub changes : r ≡ false → Changes c s at x
+
+-- ---- a stretch
+
+-- what is written from one index on are the bytes up to another and what is written from there on
+pub record Keeps (c : Change) (s : List ℕ) (from to at : ℕ) : Type 0 where
+  pub on : from ≤ at
+  pub inside : at ≤ length s
+  pub split : rewrittenText c s from to ≡ slice from at s ++ rewrittenText c s at to
+
+-- there a token is written again
+pub record Halts (c : Change) (s : List ℕ) (to at : ℕ) (x : Text) : Type 0 where
+  pub before : at < to
+  pub found : Found readToken (tokenTold at) s at x
+  pub changes : Changes c s at x
+
+-- or nothing is left to write
+pub record Ends (c : Change) (s : List ℕ) (to at : ℕ) : Type 0 where
+  pub none : rewrittenText c s at to ≡ []
+
+pub data Stops (c : Change) (s : List ℕ) (from to : ℕ) : Stop → Type 0 where
+  halted : (at : ℕ) (x : Text) → Keeps c s from to at → Halts c s to at x → Stops c s from to (Stop.Token at x)
+  ended : (at : ℕ) → Keeps c s from to at → Ends c s to at → Stops c s from to (Stop.End at)
