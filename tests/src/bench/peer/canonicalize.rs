@@ -1,61 +1,64 @@
-//! Retyping: the plan is read and its odd numerals noted. The text is the plan with those respelled,
-//! and of the table only offsets change.
+//! Retyping: the plan is read, and of its odd numerals is noted what shortest form leaves out. The
+//! text is the plan without those bytes, and of the table only offsets change.
 
-use super::digits::Digits;
-use super::keys::Set;
+use super::reader::Reader;
+use super::room::{self, Notes, Room};
 use super::splice::{has_text, Splice};
-use super::{not_written, refused, written, Reader, Refusal, Step, Trace, Words};
+use super::trace::Trace;
+use super::{answer, refused, Step, Words};
 use crate::library::Writing;
 use std::ops::Range;
 
-/// Numerals not in shortest form, and their values.
-struct Odd(Vec<(Range<usize>, i64)>);
+/// Bytes to leave out: positions and lengths.
+struct Surplus<'a> {
+    notes: Notes<'a>,
+    bytes: usize,
+}
 
-impl Trace for Odd {
-    fn odd(&mut self, numeral: Range<usize>, value: i64) {
-        self.0.push((numeral, value));
+impl Trace for Surplus<'_> {
+    fn surplus(&mut self, bytes: Range<u32>) {
+        let length = bytes.end - bytes.start;
+        self.notes.push(bytes.start, length);
+        self.bytes += length as usize;
     }
 }
 
 pub fn canonicalize(source: &[u8], table: &mut [u64], out: &mut [u8]) -> Writing {
-    match attempt(source, table.as_chunks_mut().0, out) {
-        Ok(length) => written(length),
-        Err(Refusal { code, at }) => {
-            table.fill(0);
-            not_written(code, at as u64)
-        }
-    }
+    let rows = table.as_chunks_mut().0;
+    let attempt = room::lend(source.len(), |room| attempt(source, rows, out, room));
+    answer(attempt, table)
 }
 
-fn attempt(source: &[u8], rows: &mut [Words], out: &mut [u8]) -> Step<usize> {
-    let mut set = Set::default();
-    let mut reader = Reader::new(source, rows, &mut set, Odd(Vec::new()));
-    reader.plan()?;
-    let (nodes, Odd(odd)) = (reader.nodes, reader.trace);
-    let saved =
-        |(numeral, value): &(Range<usize>, i64)| numeral.len() - Digits::of(*value).text().len();
-    let length = source.len() - odd.iter().map(saved).sum::<usize>();
+fn attempt(source: &[u8], rows: &mut [Words], out: &mut [u8], room: Room) -> Step<usize> {
+    let surplus = Surplus {
+        notes: Notes::new(room.notes),
+        bytes: 0,
+    };
+    let mut reader = Reader::new(source, rows, room.carriers, room.slots, surplus);
+    let end = reader.plan()?;
+    let surplus = reader.trace;
+    let length = source.len() - surplus.bytes;
     if length > out.len() {
         return refused(14, 0);
     }
-    respell(odd, &mut rows[..nodes], Splice::new(source, out));
+    let mut splice = Splice::new(source, out);
+    if surplus.bytes > 0 {
+        leave_out(&surplus.notes, &mut rows[..end.nodes as usize], &mut splice);
+    }
+    splice.copy_rest();
     Ok(length)
 }
 
-fn respell(odd: Vec<(Range<usize>, i64)>, rows: &mut [Words], mut splice: Splice) {
-    let mut odd = odd.into_iter().peekable();
-    // Before the first of them nothing moves.
-    if odd.peek().is_some() {
-        for row in rows.iter_mut().filter(|row| has_text(row)) {
-            let text = row[2] as usize;
-            while let Some((numeral, value)) = odd.next_if(|(numeral, _)| numeral.start < text) {
-                splice.respell(numeral, value);
-            }
-            splice.move_text(row);
+fn leave_out(notes: &Notes, rows: &mut [Words], splice: &mut Splice) {
+    let mut notes = notes.iter().peekable();
+    for row in rows.iter_mut().filter(|row| has_text(row)) {
+        let text = row[2] as u32;
+        while let Some((from, length)) = notes.next_if(|&(from, _)| from < text) {
+            splice.skip(from..from + length);
         }
+        splice.move_text(row);
     }
-    for (numeral, value) in odd {
-        splice.respell(numeral, value);
+    for (from, length) in notes {
+        splice.skip(from..from + length);
     }
-    splice.copy_rest();
 }

@@ -1,205 +1,229 @@
-//! Inserting: the plan is read with the positions of its nodes, the text put together from
-//! stretches of the source, the table moved apart where the pair goes in.
+//! Inserting: the plan is read and the place of the pair found on the way, the text put together
+//! from stretches of the source, the table moved apart where the pair goes in.
 
-use super::keys::{key_at, keys_between, Set};
+use super::careful::Scan;
+use super::keys::Key;
+use super::quick::Token;
+use super::reader::{Cursor, Reader};
+use super::room::{self, Notes, Room};
 use super::splice::Splice;
-use super::{not_written, refused, written, Reader, Refusal, Step, Trace, Words};
-use super::{DEPTH_LIMIT, SOURCE_LIMIT, WIDTH};
+use super::trace::Trace;
+use super::words::run_end;
+use super::{answer, refused, Step, Words, DEPTH_LIMIT, SOURCE_LIMIT};
 use crate::call::{Lent, Place};
 use crate::library::Writing;
 use std::ops::Range;
 
-/// Where the nodes of a plan begin, and what is wanted of the array asked for.
-struct Positions {
-    array: usize,
+/// The place asked for, and what reading found out about it.
+struct Target<'a> {
+    source: &'a [u8],
+    place: Place,
+    key: Option<Key<'a>>,
+    has_key: bool,
+    /// The containers around the array and itself; those of the way to where reading is, before it is met.
+    path: [u16; DEPTH_LIMIT],
     depth: usize,
-    close: usize,
-    starts: Vec<u32>,
+    /// Where its count stands.
+    count: Range<u32>,
+    /// Where the pair goes in, and what was read before.
+    gap: Option<Cursor>,
+    /// The nodes and positions of all.
+    references: Notes<'a>,
 }
 
-impl Trace for Positions {
-    fn node(&mut self, start: usize) {
-        self.starts.push(start as u32);
+impl<'a> Target<'a> {
+    fn new(texts: Lent<'a>, place: Place, key: Option<Token>, references: Notes<'a>) -> Self {
+        Target {
+            source: texts.source,
+            place,
+            key: key.map(|key| key.key(texts.key)),
+            has_key: false,
+            path: [0; DEPTH_LIMIT],
+            depth: 0,
+            count: 0..0,
+            gap: None,
+            references,
+        }
+    }
+}
+
+impl Trace for Target<'_> {
+    fn reference(&mut self, node: u32, start: u32) {
+        self.references.push(node, start);
     }
 
-    fn container(&mut self, node: usize, depth: usize, close: usize) {
-        if node == self.array {
+    fn open(&mut self, container: u32, depth: usize, count: Range<u32>) {
+        if self.depth > 0 {
+            return;
+        }
+        self.path[depth - 1] = container as u16;
+        if container as usize == self.place.array_node {
             self.depth = depth;
-            self.close = close;
+            self.count = count;
+        }
+    }
+
+    #[inline(always)]
+    fn key(&mut self, container: u32, index: u32, before: Cursor, key: &Token) {
+        if container as usize != self.place.array_node {
+            return;
+        }
+        if index as usize == self.place.pair_index {
+            self.gap = Some(before);
+        }
+        self.has_key |= self.key == Some(key.key(self.source));
+    }
+
+    fn close(&mut self, container: u32, before: Cursor) {
+        if container as usize == self.place.array_node {
+            self.gap.get_or_insert(before);
         }
     }
 }
 
 pub fn insert(texts: Lent, place: Place, table: &mut [u64], out: &mut [u8]) -> Writing {
-    match attempt(texts, place, table.as_chunks_mut().0, out) {
-        Ok(length) => written(length),
-        Err(Refusal { code, at }) => {
-            table.fill(0);
-            not_written(code, at as u64)
-        }
-    }
+    let rows = table.as_chunks_mut().0;
+    let attempt = room::lend(texts.source.len(), |room| {
+        attempt(texts, place, rows, out, room)
+    });
+    answer(attempt, table)
 }
 
-fn attempt(texts: Lent, place: Place, rows: &mut [Words], out: &mut [u8]) -> Step<usize> {
-    let positions = Positions {
-        array: place.array_node,
-        depth: 0,
-        close: 0,
-        // Two of each pair, which has six bytes or more.
-        starts: Vec::with_capacity(texts.source.len() / 3 + 1),
-    };
-    let mut set = Set::default();
-    let mut reader = Reader::new(texts.source, rows, &mut set, positions);
-    reader.plan()?;
-    let (nodes, carriers, positions) = (reader.nodes, reader.carriers, reader.trace);
-    let gap = gap(&rows[..nodes], place)?;
-    let pair = (alone(texts.key, b"is"), alone(texts.value, b"Nbids"));
-    let (Some(key), Some(value)) = pair else {
+fn attempt(
+    texts: Lent,
+    place: Place,
+    rows: &mut [Words],
+    out: &mut [u8],
+    room: Room,
+) -> Step<usize> {
+    let (key, value) = (alone(texts.key, b"is"), alone(texts.value, b"Nbids"));
+    let target = Target::new(texts, place, key, Notes::new(room.notes));
+    let mut reader = Reader::new(texts.source, rows, room.carriers, room.slots, target);
+    let end = reader.plan()?;
+    let target = reader.trace;
+    let gap = target.gap(&rows[..end.nodes as usize])?;
+    let (Some(key), Some(value)) = (key, value) else {
         return refused(13, 0);
     };
-    if is_present(&key, texts, rows, place.array_node) {
+    if target.has_key {
         return refused(9, 0);
     }
-    if positions.depth == DEPTH_LIMIT {
+    if target.depth == DEPTH_LIMIT {
         return refused(8, 0);
     }
-    if nodes + 2 > rows.len() {
+    let nodes = end.nodes as usize + 2;
+    if nodes > rows.len() {
         return refused(7, 0);
     }
-    let edit = Edit {
-        texts,
-        ordinal: carriers.partition_point(|&node| (node as usize) < gap) as u64 + 1,
-        gap,
-        nodes,
-        positions,
-    };
-    let length = edit.length(rows);
-    if length > SOURCE_LIMIT || length > out.len() {
-        return refused(14, 0);
-    }
-    edit.write(rows, [key, value], out);
-    Ok(length)
+    let edit = Edit { texts, target, gap };
+    let rows = &mut rows[..nodes];
+    edit.fits(rows, out.len().min(SOURCE_LIMIT))?;
+    Ok(edit.write(rows, key, value, out))
 }
 
-/// The node that the new key takes the place of: the key at that place, or the end of the array.
-fn gap(rows: &[Words], place: Place) -> Step<usize> {
-    match rows.get(place.array_node) {
-        Some(&[tag, .., count, end]) if tag == u64::from(b'a') => {
-            if place.pair_index as u64 > count {
-                return refused(12, 0);
-            }
-            let mut keys = keys_between(place.array_node + 1, end as usize, rows);
-            Ok(keys.nth(place.pair_index).unwrap_or(end as usize))
-        }
-        _ => refused(11, 0),
-    }
-}
-
-/// The node of a text that is one key or plain value of these kinds.
-fn alone(text: &[u8], tags: &[u8]) -> Option<Words> {
+/// A text that is one key or plain value of these kinds.
+fn alone(text: &[u8], tags: &[u8]) -> Option<Token> {
     let tag = *text.first().filter(|tag| tags.contains(tag))?;
-    let (mut rows, mut set) = ([[0; WIDTH]], Set::default());
-    let mut reader = Reader::new(text, &mut rows, &mut set, ());
-    reader.at = 1;
-    let content = reader.scalar(tag, 0).ok()?;
-    reader.put(tag, 0, content);
-    let whole = reader.at == text.len();
-    whole.then_some(rows[0])
+    let token = Scan::new(text, 0, &mut ()).scalar(tag).ok()?;
+    (token.end as usize == text.len()).then_some(token)
 }
 
-fn is_present(key: &Words, texts: Lent, rows: &[Words], array: usize) -> bool {
-    let end = rows[array][5] as usize;
-    let new = key_at(texts.key, &[*key], 0);
-    let mut keys = keys_between(array + 1, end, rows);
-    keys.any(|node| key_at(texts.source, rows, node) == new)
+impl Target<'_> {
+    fn gap(&self, rows: &[Words]) -> Step<Cursor> {
+        match (rows.get(self.place.array_node), self.gap) {
+            (Some(&[tag, .., count, _]), Some(gap)) if tag == u64::from(b'a') => {
+                if self.place.pair_index as u64 > count {
+                    return refused(12, 0);
+                }
+                Ok(gap)
+            }
+            _ => refused(11, 0),
+        }
+    }
 }
 
 /// An insertion to which only the output may be too small.
 struct Edit<'a> {
     texts: Lent<'a>,
-    /// The new value's.
-    ordinal: u64,
-    /// The node that the new key takes the place of.
-    gap: usize,
-    /// Those of the plan given.
-    nodes: usize,
-    positions: Positions,
+    target: Target<'a>,
+    gap: Cursor,
 }
 
 impl Edit<'_> {
-    fn length(&self, rows: &[Words]) -> usize {
-        let grown = |node: usize, number: u64| {
-            let old = self.numeral(node);
+    /// Refuses a text above the limit. Every number has one digit more at most, so most texts need
+    /// no measuring.
+    fn fits(&self, rows: &[Words], limit: usize) -> Step<()> {
+        let Lent { source, key, value } = self.texts;
+        let given = source.len() + key.len() + value.len();
+        let references = self.target.references.iter();
+        if given + 1 + self.target.references.len() <= limit {
+            return Ok(());
+        }
+        let grown = |number: u64, old: Range<u32>| {
             (number + 1).ilog10() as isize + 1 - old.len() as isize
         };
-        let array = self.positions.array;
-        let mut change = grown(array, rows[array][4]);
-        for (node, row) in rows.iter().enumerate().take(self.nodes).skip(self.gap) {
-            if self.is_raised(row) {
-                change += grown(node, row[2]);
-            }
+        let pairs = rows[self.target.place.array_node][4];
+        let raised = references.filter(|&(node, _)| self.is_raised(&rows[node as usize]));
+        let raised = raised.map(|(node, start)| grown(rows[node as usize][2], self.named(start)));
+        let change = grown(pairs, self.target.count.clone()) + raised.sum::<isize>();
+        if given.wrapping_add_signed(change) > limit {
+            return refused(14, 0);
         }
-        let length = self.texts.source.len() + self.texts.key.len() + self.texts.value.len();
-        length.wrapping_add_signed(change)
+        Ok(())
     }
 
-    fn start(&self, node: usize) -> usize {
-        self.positions.starts[node] as usize
+    /// Where the number stands that the reference at a position names.
+    fn named(&self, start: u32) -> Range<u32> {
+        start + 2..run_end(self.texts.source, start + 2)
     }
 
-    /// An array's count, or the number that a reference names.
-    fn numeral(&self, node: usize) -> Range<usize> {
-        digits_at(self.texts.source, self.start(node) + 2)
-    }
-
+    /// Of a reference. Those before the gap name what stands before it.
     fn is_raised(&self, row: &Words) -> bool {
-        matches!(row[0] as u8, b'r' | b'R') && row[2] >= self.ordinal
+        row[2] > self.gap.ordinals.into()
     }
 
-    fn write(&self, rows: &mut [Words], [mut key, mut value]: [Words; 2], out: &mut [u8]) {
-        let Positions { array, close, .. } = self.positions;
-        for row in &mut rows[..=array] {
-            row[5] += if row[5] > array as u64 { 2 } else { 0 };
+    /// The rows have two more than the plan given.
+    fn write(&self, rows: &mut [Words], key: Token, value: Token, out: &mut [u8]) -> usize {
+        let (array, gap) = (self.target.place.array_node, self.gap.nodes as usize);
+        for &container in &self.target.path[..self.target.depth] {
+            rows[usize::from(container)][5] += 2;
         }
         rows[array][4] += 1;
         let mut splice = Splice::new(self.texts.source, out);
-        splice.respell(self.numeral(array), rows[array][4] as i64);
-        for row in &mut rows[array + 1..self.gap] {
-            splice.move_text(row);
-        }
-        let is_last = self.gap as u64 + 2 == rows[array][5];
-        splice.copy(if is_last { close } else { self.start(self.gap) });
-        splice.put_node(self.texts.key, &mut key);
-        splice.put_node(self.texts.value, &mut value);
-        self.raise(&mut rows[..self.nodes], &mut splice);
+        splice.respell(self.target.count.clone(), rows[array][4]);
+        splice.move_texts(&mut rows[array + 1..gap]);
+        splice.copy(self.gap.at);
+        let pair = [
+            splice.put_token(self.texts.key, key, 0, self.gap.nodes + 1),
+            splice.put_token(self.texts.value, value, self.gap.ordinals + 1, self.gap.nodes + 2),
+        ];
+        let nodes = rows.len() - 2;
+        self.raise(&mut rows[..nodes], &mut splice);
         splice.copy_rest();
-        rows.copy_within(self.gap..self.nodes, self.gap + 2);
-        key[5] = self.gap as u64 + 1;
-        value[5] = self.gap as u64 + 2;
-        value[1] = self.ordinal;
-        rows[self.gap] = key;
-        rows[self.gap + 1] = value;
+        rows.copy_within(gap..nodes, gap + 2);
+        rows[gap..gap + 2].copy_from_slice(&pair);
+        splice.written()
     }
 
     /// Changes what stands behind the pair.
     fn raise(&self, rows: &mut [Words], splice: &mut Splice) {
-        for (node, row) in rows.iter_mut().enumerate().skip(self.gap) {
+        let references = self.target.references.iter();
+        let mut references = references.skip_while(|&(node, _)| node < self.gap.nodes);
+        for row in &mut rows[self.gap.nodes as usize..] {
             row[5] += 2;
             row[1] += u64::from(row[1] > 0);
-            splice.move_text(row);
-            if self.is_raised(row) {
-                row[2] += 1;
-                row[4] += 2;
-                splice.respell(self.numeral(node), row[2] as i64);
+            match row[0] as u8 {
+                b'd' | b's' | b'O' => splice.move_text(row),
+                b'r' | b'R' => {
+                    let start = references.next().map_or(0, |(_, start)| start);
+                    if self.is_raised(row) {
+                        row[2] += 1;
+                        row[4] += 2;
+                        splice.respell(self.named(start), row[2]);
+                    }
+                }
+                _ => {}
             }
         }
     }
-}
-
-/// The digits from a position on.
-fn digits_at(source: &[u8], position: usize) -> Range<usize> {
-    let run = source[position..]
-        .iter()
-        .take_while(|byte| byte.is_ascii_digit());
-    position..position + run.count()
 }

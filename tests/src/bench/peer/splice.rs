@@ -1,6 +1,7 @@
 //! A text put together from stretches of another one and what comes between them.
 
 use super::digits::Digits;
+use super::quick::Token;
 use super::Words;
 use std::ops::Range;
 
@@ -28,35 +29,58 @@ impl<'s, 'o> Splice<'s, 'o> {
     }
 
     /// Copies the source up to a position.
-    pub fn copy(&mut self, end: usize) {
+    pub fn copy(&mut self, end: u32) {
+        self.copy_to(end as usize);
+    }
+
+    fn copy_to(&mut self, end: usize) {
         self.put(&self.source[self.read..end]);
         self.read = end;
     }
 
     pub fn copy_rest(&mut self) {
-        self.copy(self.source.len());
+        self.copy_to(self.source.len());
+    }
+
+    /// Copies up to some bytes and leaves them out.
+    pub fn skip(&mut self, bytes: Range<u32>) {
+        self.copy(bytes.start);
+        self.read = bytes.end as usize;
     }
 
     /// Copies up to a numeral and has another number in its place.
-    pub fn respell(&mut self, numeral: Range<usize>, number: i64) {
-        self.copy(numeral.start);
+    pub fn respell(&mut self, numeral: Range<u32>, number: u64) {
+        self.skip(numeral);
         self.put(Digits::of(number).text());
-        self.read = numeral.end;
     }
 
-    /// A text that stands here, and its offset in its node.
-    pub fn put_node(&mut self, text: &[u8], row: &mut Words) {
-        if has_text(row) {
+    /// A key or value that stands here, as its node.
+    pub fn put_token(&mut self, text: &[u8], token: Token, ordinal: u32, end: u32) -> Words {
+        let mut row = token.row(ordinal, end);
+        if has_text(&row) {
             row[2] += self.written as u64;
         }
         self.put(text);
+        row
     }
 
     /// Changes a node's offset by what was put in and left out before it.
     pub fn move_text(&self, row: &mut Words) {
-        if has_text(row) {
-            row[2] = row[2] + self.written as u64 - self.read as u64;
+        row[2] = row[2] + self.written as u64 - self.read as u64;
+    }
+
+    /// Changes the offsets of nodes, if there is anything to change.
+    pub fn move_texts(&self, rows: &mut [Words]) {
+        if self.written != self.read {
+            for row in rows.iter_mut().filter(|row| has_text(row)) {
+                self.move_text(row);
+            }
         }
+    }
+
+    /// Bytes of the text so far.
+    pub fn written(&self) -> usize {
+        self.written
     }
 }
 
