@@ -30,7 +30,7 @@ use Rattle.rewriting.specs.declared.Edit.{Edit}
 use Rattle.rewriting.specs.declared.rewrite.Change.{Change}
 use Rattle.rewriting.specs.Output.{Puts}
 use Rattle.rewriting.specs.Rewriting.{changedText}
-use Rattle.rewriting.specs.Edited.{canonicalText, editedText, writable}
+use Rattle.rewriting.specs.Edited.{canonicalText, editedText, writable, Parted}
 use Rattle.rewriting.specs.declared.inserted.Spot.{Spot}
 use Rattle.rewriting.proofs.Editable.{Kept, by-place, edited-most}
 use Rattle.rewriting.proofs.Measures.{texts-inside, canonical-text-most}
@@ -114,13 +114,13 @@ module _ {text : Answer (List ℕ)} (source before out : List ℕ) where
 
 -- ---- an edit
 
-pub is-short : (room source key value : ℕ) → sourceLimit ≤ room → source ≤ 10000 → key ≤ 2000 → leb value 2000 ≡ true → Short room source key value
+pub is-short : (room source key value : ℕ) → sourceLimit ≤ room → source ≤ 49000 → key ≤ 2000 → leb value 2000 ≡ true → Short room source key value
 is-short room source key value h i j e = record { enough = h; low = omega (arith, i, j, leb→le value 2000 (T-of e)) }
 
-short-room : {room : ℕ} (source : List ℕ) (e : Edit) (key value : List ℕ) → Short room (length source) (length key) (length value) → writable (length source) e (length key) (length value) ≡ true → true ≡ fitsIn room (length (editedText source e key value))
-short-room {room} source e key value h f =
+short-room : {room : ℕ} (source : List ℕ) (e : Edit) (key value : List ℕ) → Short room (length source) (length key) (length value) → Sound source e key value → writable (length source) e (length key) (length value) ≡ true → true ≡ fitsIn room (length (editedText source e key value))
+short-room {room} source e key value h z f =
     let n : ℕ = length (editedText source e key value) in
-    let m : n ≤ sourceLimit = omega (arith, edited-most source e key value f, h .low) in
+    let m : n ≤ sourceLimit = omega (arith, edited-most source e key value f (z .parted), h .low) in
     sym (rw (le-leb n room (omega (arith, m, h .enough)), le-leb n sourceLimit m))
 
 pub canonical-spared : (room source key value : ℕ) (e : Edit) → e ≡ Edit.Canonical → fitsIn room source ≡ true → Spared room e source key value
@@ -133,9 +133,9 @@ shrinks-room room source h =
     let j : length source ≤ sourceLimit = leb→le (length source) sourceLimit (and-right (leb (length source) room) (leb (length source) sourceLimit) (T-of h)) in
     sym (rw (le-leb n room (omega (arith, canonical-text-most source, i)), le-leb n sourceLimit (omega (arith, canonical-text-most source, j))))
 
-pub spared-room : {room : ℕ} (source : List ℕ) (e : Edit) (key value : List ℕ) → Spared room e (length source) (length key) (length value) → writable (length source) e (length key) (length value) ≡ true → true ≡ fitsIn room (length (editedText source e key value))
-spared-room {room} source Edit.Canonical key value (shrinks h) f = shrinks-room room source h
-spared-room source e key value (short h) f = short-room source e key value h f
+pub spared-room : {room : ℕ} (source : List ℕ) (e : Edit) (key value : List ℕ) → Spared room e (length source) (length key) (length value) → Sound source e key value → writable (length source) e (length key) (length value) ≡ true → true ≡ fitsIn room (length (editedText source e key value))
+spared-room {room} source Edit.Canonical key value (shrinks h) z f = shrinks-room room source h
+spared-room source e key value (short h) z f = short-room source e key value h z f
 
 module _ (source : List ℕ) (e : Edit) (key value : List ℕ) where
   -- what is not edited at all was not measured
@@ -144,6 +144,14 @@ module _ (source : List ℕ) (e : Edit) (key value : List ℕ) where
 
   pub measured-roomed : (out : List ℕ) {n : ℕ} {part : List ℕ} → Puts (editedText source e key value) 0 [] n part → {r : Bool} → r ≡ fitsIn (length out) n → Roomed source e key value out (part ++ out) r
   measured-roomed out put i = record { same = untouched put out; room = λ w. i ∙ ap (fitsIn (length out)) (size put) }
+
+-- what was said of the room
+module _ {source : List ℕ} {e : Edit} {key value out out′ : List ℕ} {r : Bool} (g : Roomed source e key value out out′ r) where
+  pub room-there : r ≡ true → writable (length source) e (length key) (length value) ≡ true → fitsIn (length out) (length (editedText source e key value)) ≡ true
+  room-there i w = sym (g .room w) ∙ i
+
+  pub room-missing : r ≡ false → writable (length source) e (length key) (length value) ≡ true → false ≡ fitsIn (length out) (length (editedText source e key value))
+  room-missing i w = sym i ∙ g .room w
 
 module _ {source : List ℕ} {e : Edit} {key value : List ℕ} (z : Sound source e key value) {text : Answer (List ℕ)} (room : ℕ) (f : text ≡ withRoom room (editedText source e key value)) where
   no-room : fitsIn room (length (editedText source e key value)) ≡ false → text ≡ refused 14 0
@@ -193,7 +201,10 @@ module _ (capacity : ℕ) (source : List ℕ) (v : Value) (e : read capacity sou
       ap (changedText Change.Canonical) (between-stretch whole-plan) ∙ ap (λ (ts : List Token). writeTokens ts []) (sym (tokens-canonical v)) ∙ tokens-write (canonical v) []
 
   pub canonical-sound : Sound source Edit.Canonical [] []
-  canonical-sound = record { short = omega (arith, plan .fits .valid .short, ap length (plan .printed)); place = refl; key = omega arith; value = omega arith }
+  canonical-sound = record { short = omega (arith, plan .fits .valid .short, ap length (plan .printed)); place = refl; parted = λ p i. absurd (never i); key = omega arith; value = omega arith }
+    where
+      never : {p : Spot} → Edit.Canonical ≡ Edit.Insert p → ⊥
+      never i = let z : _≡_ {A = ℕ} 0 1 = cc in omega arith
 
   pub canonical-written : (room : ℕ) → canonicalBytes capacity room source ≡ withRoom room (canonicalText source)
   canonical-written room = by-value capacity room source v e ∙ ap (withRoom room) (sym canonical-text)
@@ -201,4 +212,7 @@ module _ (capacity : ℕ) (source : List ℕ) (v : Value) (e : read capacity sou
 -- ---- inserting
 
 pub insert-sound : {source : List ℕ} {node place : ℕ} {key value before after : List ℕ} {p : Spot} → Located source node place key value before after p → Sound source (Edit.Insert p) key value
-insert-sound {source} {key = key} {value} {p = p} l = let t = texts-inside source key value p in record { short = l .short; place = l .stands; key = t .0; value = t .1 }
+insert-sound {source} {key = key} {value} {p = p} l = let t = texts-inside source key value p in record { short = l .short; place = l .stands; parted = λ q i. subst (Parted source) (one i) (l .parted); key = t .0; value = t .1 }
+  where
+    one : {q r : Spot} → Edit.Insert q ≡ Edit.Insert r → q ≡ r
+    one i = cc

@@ -9,7 +9,8 @@ use Rattle.format.specs.Answer.{Answer}
 use Rattle.format.specs.Reading.{cleared, tableAfter}
 use Rattle.format.specs.Writing.{fitsIn, withRoom}
 use Rattle.rewriting.specs.declared.Edit.{Edit}
-use Rattle.rewriting.specs.Edited.{editedText, placed, writable}
+use Rattle.rewriting.specs.declared.inserted.Spot.{Spot}
+use Rattle.rewriting.specs.Edited.{editedText, placed, writable, Parted}
 use Rattle.editor.specs.declared.Writing.{Writing}
 use Rattle.editor.specs.Promise.{Writes}
 
@@ -23,28 +24,29 @@ pub record Settles (bytes t t′ : List ℕ) (r : Writing) : Type 0 where
   pub answer : r ≡ Writing.Written (length bytes)
   pub table : t′ ≡ tableAfter bytes t
 
--- lengths of texts that need not be measured: what is written is at most six times the source, with the texts and a head of nine bytes
+-- lengths of texts that need not be measured: what is written is at most five quarters of the source, with the texts and a head of nine bytes
 pub record Short (room source key value : ℕ) : Type 0 where
   pub enough : sourceLimit ≤ room
-  pub low : 6 * source + key + value + 9 ≤ sourceLimit
+  pub low : 5 * source + 4 * key + 4 * value + 36 ≤ 4 * sourceLimit
 
 -- an edit that need not be measured: a canonical text is never longer than its source
 pub data Spared (room : ℕ) : Edit → (source key value : ℕ) → Type 0 where
   shrinks : {source key value : ℕ} → fitsIn room source ≡ true → Spared room Edit.Canonical source key value
   short : {e : Edit} {source key value : ℕ} → Short room source key value → Spared room e source key value
 
+-- an edit of a plan that was read: it has its place there, and its texts are part of what is written
+pub record Sound (s : List ℕ) (e : Edit) (k v : List ℕ) : Type 0 where
+  pub short : length s ≤ sourceLimit
+  pub place : placed (length s) e ≡ true
+  pub parted : (p : Spot) → e ≡ Edit.Insert p → Parted s p
+  pub key : length k ≤ length (editedText s e k v)
+  pub value : length v ≤ length (editedText s e k v)
+
 -- whether there is room, of an edit that is written at all; the output is as it was
 pub record Roomed (s : List ℕ) (e : Edit) (key value out out′ : List ℕ) (r : Bool) : Type 0 where
   pub same : out′ ≡ out
   pub room : writable (length s) e (length key) (length value) ≡ true → r ≡ fitsIn (length out) (length (editedText s e key value))
 
--- an edit of a plan that was read: it has its place there, and its texts are part of what is written
-pub record Sound (s : List ℕ) (e : Edit) (k v : List ℕ) : Type 0 where
-  pub short : length s ≤ sourceLimit
-  pub place : placed (length s) e ≡ true
-  pub key : length k ≤ length (editedText s e k v)
-  pub value : length v ≤ length (editedText s e k v)
-
 -- the answer, the table and the output, the bytes to write being known
 abbrev pub Finishes : (s : List ℕ) → Edit → (key value t t′ out out′ : List ℕ) → Writing → Type 0
-Finishes s e key value t t′ out out′ r = (before : List ℕ) (text : Answer (List ℕ)) → Sound s e key value → t ≡ tableAfter s before → text ≡ withRoom (length out) (editedText s e key value) → Writes text s before t′ out out′ r
+Finishes s e key value t t′ out out′ r = (before : List ℕ) (text : Answer (List ℕ)) → t ≡ tableAfter s before → text ≡ withRoom (length out) (editedText s e key value) → Writes text s before t′ out out′ r

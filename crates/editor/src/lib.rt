@@ -11,13 +11,13 @@ ghost use lib.ListN.{length};
 ghost use Rattle.format.specs.Reading.{capacityOf};
 ghost use Rattle.format.specs.Writing.{fitsIn, canonicalBytes, insertBytes};
 ghost use Rattle.editor.specs.Promise.{Writes};
-ghost use Rattle.editor.specs.Ends.{Refuses, Settles, Short, Spared, Roomed, Finishes};
+ghost use Rattle.editor.specs.Ends.{Refuses, Settles, Short, Spared, Sound, Roomed, Finishes};
 
 // "bytes to write exceed the output's length or 65,536" is refused.
 const SOURCE_LIMIT: usize = 65536;
 
-// What is written of so short a source, key and value is never longer than a plan may be.
-const SHORT_SOURCE: usize = 10000;
+// What is written of so short a source, key and value is never longer than a plan may be: a reference of four bytes grows by one at the most, all else by the pair and a digit of the count.
+const SHORT_SOURCE: usize = 49000;
 
 const SHORT_TEXT: usize = 2000;
 
@@ -83,6 +83,7 @@ fn is_spared(room: usize, edit: Edit, source: usize, key: usize, value: usize) -
 
 // Whether there is room for the edited plan. Written where there is none for any of it, a longer one is only measured.
 fn room_for(source: &[u8], edit: Edit, key: &[u8], value: &[u8], out: &mut [u8]) -> bool
+    requires { ⌜ Sound (now source) edit (now key) (now value) ⌝ }
     ensures { λ r. ⌜ Roomed (now (source .entry)) edit (now (key .entry)) (now (value .entry)) (now (out .entry)) (now (out .exit)) r ⌝ }
 {
     let room = out.len();
@@ -105,6 +106,7 @@ fn write_plan(
     table: &mut [u64],
     out: &mut [u8],
 ) -> Writing
+    requires { ⌜ Sound (now source) edit (now key) (now value) ⌝ }
     ensures { λ r. ⌜ Finishes (now (source .entry)) edit (now (key .entry)) (now (value .entry)) (now (table .entry)) (now (table .exit)) (now (out .entry)) (now (out .exit)) r ⌝ }
 {
     if !room_for(source, edit, key, value, out) {

@@ -67,4 +67,4 @@ module _ {s t t′ : List ℕ} {reading : Reading} (r : Reads s t t′ reading) 
         pub locates-at : {spot : Spot} → placing ≡ Placing.At spot → Locates s node place key value t t′ placing
         locates-at f =
             let q = subst (Placed s t′ node place key value) f p in
-            subst (Locates s node place key value t t′) (sym f) (record { table = r .table; stands = q .stands; short = short; bytes = λ room. as-given room (q .bytes room) })
+            subst (Locates s node place key value t t′) (sym f) (record { table = r .table; stands = q .stands; parted = q .parted; short = short; bytes = λ room. as-given room (q .bytes room) })

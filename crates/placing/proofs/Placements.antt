@@ -37,6 +37,7 @@ module _ {s t : List ℕ} {n : ℕ} (g : Given s t n) (node place : ℕ) (key va
         let e = gaps.inserts (g .value) (g .plan .fits .valid) node (h .site) (h .at) place s (g .plan .printed) x (r ahead) gap (gap-is g node place key value h b) m new (h .counted) z is in
         record {
           stands = head-stands e;
+          parted = record { front = e .front; middle = e .middle; back = e .back };
           bytes = λ room.
               steps-pass (capacityOf t) s node place key value room (g .value) (h .site) (p .keyed .key) (p .scalar) f
               ∙ ap (withRoom room)

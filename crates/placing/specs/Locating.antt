@@ -9,13 +9,14 @@ use Rattle.format.specs.Answer.{refused}
 use Rattle.format.specs.Reading.{capacityOf, cleared, tableAfter}
 use Rattle.format.specs.Writing.{withRoom, insertBytes}
 use Rattle.rewriting.specs.declared.inserted.Spot.{Spot}
-use Rattle.rewriting.specs.Edited.{stands, insertedText}
+use Rattle.rewriting.specs.Edited.{stands, insertedText, Parted}
 use Rattle.placing.specs.declared.Placing.{Placing}
 
--- no refusal before 14: the table is that of the plan given, which is no longer than a plan may be, and the bytes to write are known, "the old ones with three changes". Rewriting writes them, for an array's head stands at the spot
+-- no refusal before 14: the table is that of the plan given, which is no longer than a plan may be, and the bytes to write are known, "the old ones with three changes". Rewriting writes them, for an array's head stands at the spot, and they are no longer than that allows, for tokens stand around it
 pub record Located (s : List ℕ) (node place : ℕ) (key value t t′ : List ℕ) (p : Spot) : Type 0 where
   pub table : t′ ≡ tableAfter s t
   pub stands : stands (length s) p ≡ true
+  pub parted : Parted s p
   pub short : length s ≤ sourceLimit
   pub bytes : (room : ℕ) → insertBytes (capacityOf t) room s node place key value ≡ withRoom room (insertedText s key value p)
 

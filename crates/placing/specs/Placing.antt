@@ -16,7 +16,7 @@ use Rattle.format.specs.Reading.{capacityOf}
 use Rattle.format.specs.Writing.{withRoom, insertBytes}
 use Rattle.reader.specs.declared.Reading.{Reading}
 use Rattle.rewriting.specs.declared.inserted.Spot.{Spot}
-use Rattle.rewriting.specs.Edited.{stands, insertedText}
+use Rattle.rewriting.specs.Edited.{stands, insertedText, Parted}
 use Rattle.placing.specs.declared.Placing.{Placing}
 use Rattle.placing.specs.Passing.{Ahead}
 
@@ -61,6 +61,7 @@ pub record SpotIs (s head rest : List ℕ) (at count ordinal : ℕ) (r : Spot) :
 
 pub record Placement (s t : List ℕ) (node place : ℕ) (key value : List ℕ) (p : Spot) : Type 0 where
   pub stands : stands (length s) p ≡ true
+  pub parted : Parted s p
   pub bytes : (room : ℕ) → insertBytes (capacityOf t) room s node place key value ≡ withRoom room (insertedText s key value p)
 
 abbrev pub Placed : (s t : List ℕ) (node place : ℕ) (key value : List ℕ) → Placing → Type 0

@@ -13,9 +13,9 @@ use Rattle.rewriting.specs.declared.Edit.{Edit}
 use Rattle.rewriting.specs.declared.Edited.{Edited}
 use Rattle.rewriting.specs.declared.inserted.Spot.{Spot}
 use Rattle.rewriting.specs.Output.{Within, Puts}
-use Rattle.rewriting.specs.Edited.{canonicalText, insertedText, editedText, stands, placed, writable, Edits, written, unfit, Insertable}
+use Rattle.rewriting.specs.Edited.{canonicalText, insertedText, editedText, stands, placed, writable, Edits, written, unfit, Insertable, Parted}
 use Rattle.rewriting.proofs.Outputs.{puts-as}
-use Rattle.rewriting.proofs.Measures.{insertable, inserted-most, canonical-text-most, canonical-within}
+use Rattle.rewriting.proofs.Measures.{insertable, parted-most, canonical-text-most, canonical-within}
 
 -- ---- the tests, one after another
 
@@ -81,10 +81,11 @@ as-insert s key value i = ap (λ (d : Edit). editedText s d key value) i
 
 -- ---- for those who edit
 
--- how long it is at most
-pub edited-most : (s : List ℕ) (e : Edit) (key value : List ℕ) → writable (length s) e (length key) (length value) ≡ true → length (editedText s e key value) ≤ 6 * length s + length key + length value + 9
-edited-most s Edit.Canonical key value f = omega (arith, canonical-text-most s)
-edited-most s (Edit.Insert p) key value f = inserted-most s key value p (sizes (length s) (Edit.Insert p) (length key) (length value) f .standing)
+-- how long it is at most, in a place between tokens
+pub edited-most : (s : List ℕ) (e : Edit) (key value : List ℕ) → writable (length s) e (length key) (length value) ≡ true → ((p : Spot) → e ≡ Edit.Insert p → Parted s p)
+    → 4 * length (editedText s e key value) ≤ 5 * length s + 4 * length key + 4 * length value + 36
+edited-most s Edit.Canonical key value f g = omega (arith, canonical-text-most s)
+edited-most s (Edit.Insert p) key value f g = parted-most s key value p (sizes (length s) (Edit.Insert p) (length key) (length value) f .standing) (g p refl)
 
 pub record Put (s : List ℕ) (e : Edit) (key value out out′ : List ℕ) (n : ℕ) : Type 0 where
   pub fit : writable (length s) e (length key) (length value) ≡ true

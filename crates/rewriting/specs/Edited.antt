@@ -6,6 +6,7 @@ use Prim.Native.Nat.{ℕ, _+_, _-_}
 use lib.Dec.{leb}
 use lib.ListN.{length}
 use Rattle.format.specs.Limits.{sourceLimit, numberLimit}
+use Rattle.tokens.specs.Between.{Stretch}
 use Rattle.rewriting.specs.declared.Edit.{Edit}
 use Rattle.rewriting.specs.declared.Edited.{Edited}
 use Rattle.rewriting.specs.declared.inserted.Spot.{Spot}
@@ -48,6 +49,12 @@ writable n e key value = leb n sourceLimit && (leb key sourceLimit && (leb value
 pub data Edits (s : List ℕ) (e : Edit) (key value out out′ : List ℕ) : Edited → Type 0 where
   written : (n : ℕ) → writable (length s) e (length key) (length value) ≡ true → Puts (editedText s e key value) 0 out n out′ → Edits s e key value out out′ (Edited.Written n)
   unfit : writable (length s) e (length key) (length value) ≡ false → out′ ≡ out → Edits s e key value out out′ Edited.Unfit
+
+-- a place between tokens: they fill the source before the array's head, behind it up to the gap, and from there on
+pub record Parted (s : List ℕ) (p : Spot) : Type 0 where
+  pub front : Stretch s 0 (p .at)
+  pub middle : Stretch s (p .inside) (p .gap)
+  pub back : Stretch s (p .gap) (length s)
 
 -- an insertion that is written: no index overflows
 pub record Insertable (s key value : List ℕ) (p : Spot) : Type 0 where

@@ -22,13 +22,18 @@ slice-aggregate-none : tie.Need-slice-aggregate-none
 slice-aggregate-none c = search needs
 
 write-plan-requires : tie.Need-write-plan-requires
-write-plan-requires c κs = search needs
+write-plan-requires c κs =
+    let t = promised.accepted (subst (Reads _ _ _) (c .before .before .before .enum-told .given .1) (c .before .before .before .before .before .before .before .read .ensures)) in
+    ended.canonical-sound _ _ (t .value) (t .read)
 
 same-length : tie.Need-same-length
 same-length c = search needs
 
 returns : tie.Need-returns
-returns c = let e = promised.refusal (subst (Reads _ _ _) (c .before .code .given .1) (c .before .before .before .before .before .read .ensures)) in ended.writes-refused _ _ _ (read-refused _ _ _ _ _ e) (c .before .before .before .before .before .read .ensures .table ∙ after-refused _ _ _ _ e)
+returns c =
+    let read = c .before .before .before .before .before in
+    let e = promised.refusal (subst (Reads _ _ _) (c .before .code .given .1) (read .read .ensures)) in
+    ended.writes-refused _ _ _ (read-refused _ _ _ _ _ e) (read .read .ensures .table ∙ after-refused _ _ _ _ e)
 
 same-length-2 : tie.Need-same-length-2
 same-length-2 c = search needs
@@ -37,7 +42,10 @@ same-length-3 : tie.Need-same-length-3
 same-length-3 c = search needs
 
 returns-2 : tie.Need-returns-2
-returns-2 c = let t = promised.accepted (subst (Reads _ _ _) (c .before .before .before .before .before .before .before .before .enum-told .given .1) (c .before .before .before .before .before .before .before .before .before .before .before .before .read .ensures)) in c .before .before .before .before .write-plan .ensures _ _ (ended.canonical-sound _ _ (t .value) (t .read)) (c .before .before .before .before .before .before .before .before .before .before .before .before .read .ensures .table) (ended.canonical-written _ _ (t .value) (t .read) _)
+returns-2 c =
+    let read = c .before .before .before .before .before .before .before .before .before .before .before .before in
+    let t = promised.accepted (subst (Reads _ _ _) (c .before .before .before .before .before .before .before .before .enum-told .given .1) (read .read .ensures)) in
+    c .before .before .before .before .write-plan .ensures _ _ (read .read .ensures .table) (ended.canonical-written _ _ (t .value) (t .read) _)
 
 pub canonicalize-spec : {M : Type 1} → statement M
 canonicalize-spec =

@@ -16,13 +16,19 @@ enum-known-spot : tie.Need-enum-known-spot
 enum-known-spot c = search needs
 
 write-plan-requires : tie.Need-write-plan-requires
-write-plan-requires c κs = search needs
+write-plan-requires c κs =
+    let start = c .before .before .before .before .before .before .before .before .before .before .before .before .before .before in
+    let l = subst (Locates (start .args .source .now) (start .args .array-node) (start .args .pair-index) (start .args .key .now) (start .args .value .now) (start .args .table .now) _) (c .before .before .before .spot .given .1) (c .before .before .before .before .before .before .before .locate .ensures) in
+    ended.insert-sound l
 
 same-length : tie.Need-same-length
 same-length c = search needs
 
 returns : tie.Need-returns
-returns c = let l = (subst (Locates (c .before .before .before .before .before .before .before .before .before .before .before .before .args .source .now) (c .before .before .before .before .before .before .before .before .before .before .before .before .args .array-node) (c .before .before .before .before .before .before .before .before .before .before .before .before .args .pair-index) (c .before .before .before .before .before .before .before .before .before .before .before .before .args .key .now) (c .before .before .before .before .before .before .before .before .before .before .before .before .args .value .now) (c .before .before .before .before .before .before .before .before .before .before .before .before .args .table .now) _) (c .before .code .given .1) (c .before .before .before .before .before .locate .ensures)) in ended.writes-refused _ _ _ (l .1 _) (l .0)
+returns c =
+    let start = c .before .before .before .before .before .before .before .before .before .before .before .before in
+    let l = subst (Locates (start .args .source .now) (start .args .array-node) (start .args .pair-index) (start .args .key .now) (start .args .value .now) (start .args .table .now) _) (c .before .code .given .1) (c .before .before .before .before .before .locate .ensures) in
+    ended.writes-refused _ _ _ (l .1 _) (l .0)
 
 same-length-2 : tie.Need-same-length-2
 same-length-2 c = search needs
@@ -31,7 +37,10 @@ same-length-3 : tie.Need-same-length-3
 same-length-3 c = search needs
 
 returns-2 : tie.Need-returns-2
-returns-2 c = let l = (subst (Locates (c .before .before .before .before .before .before .before .before .before .before .before .before .before .before .before .before .before .before .before .args .source .now) (c .before .before .before .before .before .before .before .before .before .before .before .before .before .before .before .before .before .before .before .args .array-node) (c .before .before .before .before .before .before .before .before .before .before .before .before .before .before .before .before .before .before .before .args .pair-index) (c .before .before .before .before .before .before .before .before .before .before .before .before .before .before .before .before .before .before .before .args .key .now) (c .before .before .before .before .before .before .before .before .before .before .before .before .before .before .before .before .before .before .before .args .value .now) (c .before .before .before .before .before .before .before .before .before .before .before .before .before .before .before .before .before .before .before .args .table .now) _) (c .before .before .before .before .before .before .before .before .spot .given .1) (c .before .before .before .before .before .before .before .before .before .before .before .before .locate .ensures)) in c .before .before .before .before .write-plan .ensures _ _ (ended.insert-sound l) (l .table) (l .bytes _)
+returns-2 c =
+    let start = c .before .before .before .before .before .before .before .before .before .before .before .before .before .before .before .before .before .before .before in
+    let l = subst (Locates (start .args .source .now) (start .args .array-node) (start .args .pair-index) (start .args .key .now) (start .args .value .now) (start .args .table .now) _) (c .before .before .before .before .before .before .before .before .spot .given .1) (c .before .before .before .before .before .before .before .before .before .before .before .before .locate .ensures) in
+    c .before .before .before .before .write-plan .ensures _ _ (l .table) (l .bytes _)
 
 pub insert-spec : {M : Type 1} → statement M
 insert-spec =

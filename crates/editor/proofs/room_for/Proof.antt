@@ -11,13 +11,21 @@ is-spared-requires : tie.Need-is-spared-requires
 is-spared-requires c κs = search needs
 
 returns : tie.Need-returns
-returns c = record { same = refl; room = ended.spared-room (c .before .before .before .before .before .before .args .source .now) (c .before .before .before .before .before .before .args .edit) (c .before .before .before .before .before .before .args .key .now) (c .before .before .before .before .before .before .args .value .now) (c .before .is-spared .ensures (c .if1 .taken)) }
+returns c =
+    let asked = c .before in
+    let start = asked .before .before .before .before .before in
+    record {
+      same = refl;
+      room = ended.spared-room (start .args .source .now) (start .args .edit) (start .args .key .now) (start .args .value .now) (asked .is-spared .ensures (c .if1 .taken)) (start .pre);
+    }
 
 slice-relend-prefix-write : tie.Need-slice-relend-prefix-write
 slice-relend-prefix-write c = search needs
 
 slice-aggregate-write : tie.Need-slice-aggregate-write
-slice-aggregate-write c = sym (length-take-le _ (c .before .before .before .before .before .before .before .args .out .now) (slice-relend-prefix-write (c .before)))
+slice-aggregate-write c =
+    let start = c .before .before .before .before .before .before .before in
+    sym (length-take-le _ (start .args .out .now) (slice-relend-prefix-write (c .before)))
 
 write-requires : tie.Need-write-requires
 write-requires c κs = search needs
@@ -32,7 +40,10 @@ same-length : tie.Need-same-length
 same-length c = search needs
 
 returns-2 : tie.Need-returns-2
-returns-2 c = ended.unfit-roomed (c .before .before .before .before .before .before .before .before .before .before .before .before .args .source .now) (c .before .before .before .before .before .before .before .before .before .before .before .before .args .edit) (c .before .before .before .before .before .before .before .before .before .before .before .before .args .key .now) (c .before .before .before .before .before .before .before .before .before .before .before .before .args .value .now) (edits.unfit-of (c .before .before .before .before .write .ensures) (c .enum-told .given .1))
+returns-2 c =
+    let wrote = c .before .before .before .before in
+    let start = wrote .before .before .before .before .before .before .before .before in
+    ended.unfit-roomed (start .args .source .now) (start .args .edit) (start .args .key .now) (start .args .value .now) (edits.unfit-of (wrote .write .ensures) (c .enum-told .given .1))
 
 has-room-requires : tie.Need-has-room-requires
 has-room-requires c κs = search needs
@@ -41,7 +52,11 @@ same-length-2 : tie.Need-same-length-2
 same-length-2 c = search needs
 
 returns-3 : tie.Need-returns-3
-returns-3 c = ended.measured-roomed (c .before .before .before .before .before .before .before .before .before .before .before .before .before .before .args .source .now) (c .before .before .before .before .before .before .before .before .before .before .before .before .before .before .args .edit) (c .before .before .before .before .before .before .before .before .before .before .before .before .before .before .args .key .now) (c .before .before .before .before .before .before .before .before .before .before .before .before .before .before .args .value .now) (c .before .before .before .before .before .before .before .before .before .before .before .before .before .before .args .out .now) (edits.written-of (c .before .before .before .before .before .before .write .ensures) (c .before .before .measured .given .1) .text) (c .has-room .ensures)
+returns-3 c =
+    let wrote = c .before .before .before .before .before .before in
+    let start = wrote .before .before .before .before .before .before .before .before in
+    let put = edits.written-of (wrote .write .ensures) (c .before .before .measured .given .1) in
+    ended.measured-roomed (start .args .source .now) (start .args .edit) (start .args .key .now) (start .args .value .now) (start .args .out .now) (put .text) (c .has-room .ensures)
 
 pub room-for-spec : {M : Type 1} → statement M
 room-for-spec =
