@@ -19,6 +19,13 @@ pub fn short_size(text: u64) -> Option<usize> {
     (is_plain && size > 1).then_some(size)
 }
 
+/// The size of the float text at a position, if a `;` stands behind it.
+#[inline(never)]
+pub fn closed_size(source: &[u8], from: usize) -> Option<usize> {
+    let size = size(source, from)?;
+    (source.get(from + size) == Some(&b';')).then_some(size)
+}
+
 /// The size of the float text at a position.
 pub fn size(source: &[u8], from: usize) -> Option<usize> {
     let first_digit = behind_sign(source, from);

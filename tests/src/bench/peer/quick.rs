@@ -216,7 +216,7 @@ pub fn float(source: &[u8], at: usize, word: u64) -> Option<Token> {
     let text = word >> 16;
     let size = match float::short_size(text) {
         Some(size) => size,
-        None => float::size(source, at + 2)?,
+        None => float::closed_size(source, at + 2)?,
     };
     Some(Token {
         tag: b'd',
