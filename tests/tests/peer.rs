@@ -33,7 +33,7 @@ fn peer_and_model_agree() {
 }
 
 /// The set of keys is one for all containers, so that here and there an equal key of another stands in the way. Even
-/// counts would spread them too evenly for that.
+/// counts would spread them too evenly for that, and keys that rise are in no set.
 #[test]
 fn keys_of_other_containers_do_not_repeat() {
     let mut random = Random::new(1);
@@ -48,9 +48,9 @@ fn keys_of_other_containers_do_not_repeat() {
     }
 }
 
-/// An array with so many letters for keys, and a last one.
+/// An array with so many letters for keys, down to a, and a last one.
 fn keys(letters: usize, last: &str) -> String {
-    let letters = "abcdefghijklmno"[..letters].split_inclusive(char::is_alphabetic);
+    let letters = "onmlkjihgfedcba"[15 - letters..].split_inclusive(char::is_alphabetic);
     let keys: Vec<&str> = letters.chain([last]).collect();
     let pairs: String = keys.iter().map(|key| format!("s:1:\"{key}\";N;")).collect();
     format!("a:{}:{{{pairs}}}", keys.len())

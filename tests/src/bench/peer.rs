@@ -57,8 +57,8 @@ pub fn read(source: &[u8], table: &mut [u64]) -> Reading {
         Ok(end) => Reading {
             code: 0,
             at: 0,
-            nodes: end.nodes.into(),
-            ordinals: end.ordinals.into(),
+            nodes: end.nodes as u64,
+            ordinals: end.ordinals as u64,
         },
         Err(refusal) => {
             table.fill(0);
@@ -72,8 +72,8 @@ pub fn read(source: &[u8], table: &mut [u64]) -> Reading {
     }
 }
 
-fn refused<T>(code: u64, at: u32) -> Step<T> {
-    Err(Refusal(code << 32 | u64::from(at)))
+fn refused<T>(code: u64, at: usize) -> Step<T> {
+    Err(Refusal(code << 32 | at as u64))
 }
 
 /// The answer of a service that writes a plan, whose refusal clears the table.

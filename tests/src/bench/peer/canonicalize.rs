@@ -16,10 +16,9 @@ struct Surplus<'a> {
 }
 
 impl Trace for Surplus<'_> {
-    fn surplus(&mut self, bytes: Range<u32>) {
-        let length = bytes.end - bytes.start;
-        self.notes.push(bytes.start, length);
-        self.bytes += length as usize;
+    fn surplus(&mut self, bytes: Range<usize>) {
+        self.notes.push(bytes.start, bytes.len());
+        self.bytes += bytes.len();
     }
 }
 
@@ -43,7 +42,7 @@ fn attempt(source: &[u8], rows: &mut [Words], out: &mut [u8], room: Room) -> Ste
     }
     let mut splice = Splice::new(source, out);
     if surplus.bytes > 0 {
-        leave_out(&surplus.notes, &mut rows[..end.nodes as usize], &mut splice);
+        leave_out(&surplus.notes, &mut rows[..end.nodes], &mut splice);
     }
     splice.copy_rest();
     Ok(length)
@@ -52,7 +51,7 @@ fn attempt(source: &[u8], rows: &mut [Words], out: &mut [u8], room: Room) -> Ste
 fn leave_out(notes: &Notes, rows: &mut [Words], splice: &mut Splice) {
     let mut notes = notes.iter().peekable();
     for row in rows.iter_mut().filter(|row| has_text(row)) {
-        let text = row[2] as u32;
+        let text = row[2] as usize;
         while let Some((from, length)) = notes.next_if(|&(from, _)| from < text) {
             splice.skip(from..from + length);
         }

@@ -10,14 +10,14 @@ const NUMBER_LIMIT: u64 = 65_536;
 /// A token whose tag stands at `start`, where a fault is told.
 pub struct Scan<'a, T> {
     source: &'a [u8],
-    start: u32,
-    at: u32,
+    start: usize,
+    at: usize,
     trace: &'a mut T,
 }
 
 impl<'a, T: Trace> Scan<'a, T> {
     /// Behind the tag that stands at a position.
-    pub fn new(source: &'a [u8], start: u32, trace: &'a mut T) -> Self {
+    pub fn new(source: &'a [u8], start: usize, trace: &'a mut T) -> Self {
         Scan {
             source,
             start,
@@ -37,7 +37,7 @@ impl<'a, T: Trace> Scan<'a, T> {
             b'd' => self.float(),
             _ => {
                 let text = self.quoted(b"\";")?;
-                Ok(self.token(tag, text.start.into(), text.end - text.start))
+                Ok(self.token(tag, text.start as u64, text.len()))
             }
         }
     }
@@ -66,15 +66,15 @@ impl<'a, T: Trace> Scan<'a, T> {
         self.expect(b":{")?;
         Ok(Head {
             tag,
-            content: name.start.into(),
-            size: name.end - name.start,
+            content: name.start as u64,
+            size: name.len(),
             pairs,
             count,
             end: self.at,
         })
     }
 
-    fn token(&self, tag: u8, content: u64, size: u32) -> Token {
+    fn token(&self, tag: u8, content: u64, size: usize) -> Token {
         Token {
             tag,
             content,
@@ -84,14 +84,14 @@ impl<'a, T: Trace> Scan<'a, T> {
     }
 
     fn rest(&self) -> &'a [u8] {
-        &self.source[self.at as usize..]
+        &self.source[self.at..]
     }
 
     fn expect(&mut self, text: &[u8]) -> Step<()> {
         if !self.rest().starts_with(text) {
             return refused(2, self.start);
         }
-        self.at += text.len() as u32;
+        self.at += text.len();
         Ok(())
     }
 
@@ -112,18 +112,18 @@ impl<'a, T: Trace> Scan<'a, T> {
         Ok(value)
     }
 
-    fn number(&mut self) -> Step<u32> {
+    fn number(&mut self) -> Step<usize> {
         let from = self.at;
         let value = self.digits(NUMBER_LIMIT)?;
         self.tell_zeros(from, from);
-        Ok(value as u32)
+        Ok(value as usize)
     }
 
     /// Tells what shortest form leaves out of the digits up to here: the zeros in front but a last
     /// one, and what stands from a position on before them.
-    fn tell_zeros(&mut self, from: u32, first_digit: u32) {
-        let digits = &self.source[first_digit as usize..self.at as usize - 1];
-        let zeros = digits.iter().take_while(|&&digit| digit == b'0').count() as u32;
+    fn tell_zeros(&mut self, from: usize, first_digit: usize) {
+        let digits = &self.source[first_digit..self.at - 1];
+        let zeros = digits.iter().take_while(|&&digit| digit == b'0').count();
         if first_digit + zeros > from {
             self.trace.surplus(from..first_digit + zeros);
         }
@@ -165,16 +165,16 @@ impl<'a, T: Trace> Scan<'a, T> {
         };
         self.at += size;
         self.expect(b";")?;
-        Ok(self.token(b'd', from.into(), size))
+        Ok(self.token(b'd', from as u64, size))
     }
 
     /// A length, a quote, so many bytes, and what closes them; where they stand.
-    fn quoted(&mut self, close: &[u8]) -> Step<Range<u32>> {
+    fn quoted(&mut self, close: &[u8]) -> Step<Range<usize>> {
         self.expect(b":")?;
         let size = self.number()?;
         self.expect(b":\"")?;
         let from = self.at;
-        if self.rest().len() < size as usize {
+        if self.rest().len() < size {
             return refused(2, self.start);
         }
         self.at += size;

@@ -4,7 +4,7 @@ use super::words::{byte, first, load, others, run_end};
 
 /// The size of one that stands in a word with the `;` behind it, and has no sign or exponent.
 #[inline(always)]
-pub fn short_size(text: u64) -> Option<u32> {
+pub fn short_size(text: u64) -> Option<usize> {
     let marks = others(text);
     let whole = first(marks);
     if whole > 5 {
@@ -19,31 +19,38 @@ pub fn short_size(text: u64) -> Option<u32> {
     (is_plain && size > 1).then_some(size)
 }
 
+/// The size of the float text at a position, if a `;` stands behind it.
+#[inline(never)]
+pub fn closed_size(source: &[u8], from: usize) -> Option<usize> {
+    let size = size(source, from)?;
+    (source.get(from + size) == Some(&b';')).then_some(size)
+}
+
 /// The size of the float text at a position.
-pub fn size(source: &[u8], from: u32) -> Option<u32> {
+pub fn size(source: &[u8], from: usize) -> Option<usize> {
     let first_digit = behind_sign(source, from);
     let point = run_end(source, first_digit);
     let mut digits = point - first_digit;
     let mut end = point;
-    if source.get(point as usize) == Some(&b'.') {
+    if source.get(point) == Some(&b'.') {
         end = run_end(source, point + 1);
         digits += end - point - 1;
     }
     if digits == 0 {
-        return named_size(source.get(from as usize..)?);
+        return named_size(source.get(from..)?);
     }
     Some(behind_exponent(source, end)? - from)
 }
 
-fn named_size(text: &[u8]) -> Option<u32> {
+fn named_size(text: &[u8]) -> Option<usize> {
     let mut names = ["INF", "-INF", "NAN"].into_iter();
     let name = names.find(|name| text.starts_with(name.as_bytes()))?;
-    Some(name.len() as u32)
+    Some(name.len())
 }
 
 /// The position behind an exponent, if one stands there.
-fn behind_exponent(source: &[u8], at: u32) -> Option<u32> {
-    if !matches!(source.get(at as usize), Some(b'e' | b'E')) {
+fn behind_exponent(source: &[u8], at: usize) -> Option<usize> {
+    if !matches!(source.get(at), Some(b'e' | b'E')) {
         return Some(at);
     }
     let first_digit = behind_sign(source, at + 1);
@@ -51,7 +58,7 @@ fn behind_exponent(source: &[u8], at: u32) -> Option<u32> {
     (end > first_digit).then_some(end)
 }
 
-fn behind_sign(source: &[u8], at: u32) -> u32 {
+fn behind_sign(source: &[u8], at: usize) -> usize {
     let is_sign = matches!(byte(load(source, at), 0), b'+' | b'-');
-    at + u32::from(is_sign)
+    at + usize::from(is_sign)
 }

@@ -24,7 +24,7 @@ struct Target<'a> {
     path: [u16; DEPTH_LIMIT],
     depth: usize,
     /// Where its count stands.
-    count: Range<u32>,
+    count: Range<usize>,
     /// Where the pair goes in, and what was read before.
     gap: Option<Cursor>,
     /// The nodes and positions of all.
@@ -48,34 +48,34 @@ impl<'a> Target<'a> {
 }
 
 impl Trace for Target<'_> {
-    fn reference(&mut self, node: u32, start: u32) {
+    fn reference(&mut self, node: usize, start: usize) {
         self.references.push(node, start);
     }
 
-    fn open(&mut self, container: u32, depth: usize, count: Range<u32>) {
+    fn open(&mut self, container: usize, depth: usize, count: Range<usize>) {
         if self.depth > 0 {
             return;
         }
         self.path[depth - 1] = container as u16;
-        if container as usize == self.place.array_node {
+        if container == self.place.array_node {
             self.depth = depth;
             self.count = count;
         }
     }
 
     #[inline(always)]
-    fn key(&mut self, container: u32, index: u32, before: Cursor, key: &Token) {
-        if container as usize != self.place.array_node {
+    fn key(&mut self, container: usize, index: usize, before: Cursor, key: &Token) {
+        if container != self.place.array_node {
             return;
         }
-        if index as usize == self.place.pair_index {
+        if index == self.place.pair_index {
             self.gap = Some(before);
         }
         self.has_key |= self.key == Some(key.key(self.source));
     }
 
-    fn close(&mut self, container: u32, before: Cursor) {
-        if container as usize == self.place.array_node {
+    fn close(&mut self, container: usize, before: Cursor) {
+        if container == self.place.array_node {
             self.gap.get_or_insert(before);
         }
     }
@@ -101,7 +101,7 @@ fn attempt(
     let mut reader = Reader::new(texts.source, rows, room.carriers, room.slots, target);
     let end = reader.plan()?;
     let target = reader.trace;
-    let gap = target.gap(&rows[..end.nodes as usize])?;
+    let gap = target.gap(&rows[..end.nodes])?;
     let (Some(key), Some(value)) = (key, value) else {
         return refused(13, 0);
     };
@@ -111,7 +111,7 @@ fn attempt(
     if target.depth == DEPTH_LIMIT {
         return refused(8, 0);
     }
-    let nodes = end.nodes as usize + 2;
+    let nodes = end.nodes + 2;
     if nodes > rows.len() {
         return refused(7, 0);
     }
@@ -125,7 +125,7 @@ fn attempt(
 fn alone(text: &[u8], tags: &[u8]) -> Option<Token> {
     let tag = *text.first().filter(|tag| tags.contains(tag))?;
     let token = Scan::new(text, 0, &mut ()).scalar(tag).ok()?;
-    (token.end as usize == text.len()).then_some(token)
+    (token.end == text.len()).then_some(token)
 }
 
 impl Target<'_> {
@@ -159,12 +159,12 @@ impl Edit<'_> {
         if given + 1 + self.target.references.len() <= limit {
             return Ok(());
         }
-        let grown = |number: u64, old: Range<u32>| {
+        let grown = |number: u64, old: Range<usize>| {
             (number + 1).ilog10() as isize + 1 - old.len() as isize
         };
         let pairs = rows[self.target.place.array_node][4];
-        let raised = references.filter(|&(node, _)| self.is_raised(&rows[node as usize]));
-        let raised = raised.map(|(node, start)| grown(rows[node as usize][2], self.named(start)));
+        let raised = references.filter(|&(node, _)| self.is_raised(&rows[node]));
+        let raised = raised.map(|(node, start)| grown(rows[node][2], self.named(start)));
         let change = grown(pairs, self.target.count.clone()) + raised.sum::<isize>();
         if given.wrapping_add_signed(change) > limit {
             return refused(14, 0);
@@ -173,18 +173,18 @@ impl Edit<'_> {
     }
 
     /// Where the number stands that the reference at a position names.
-    fn named(&self, start: u32) -> Range<u32> {
+    fn named(&self, start: usize) -> Range<usize> {
         start + 2..run_end(self.texts.source, start + 2)
     }
 
     /// Of a reference. Those before the gap name what stands before it.
     fn is_raised(&self, row: &Words) -> bool {
-        row[2] > self.gap.ordinals.into()
+        row[2] > self.gap.ordinals as u64
     }
 
     /// The rows have two more than the plan given.
     fn write(&self, rows: &mut [Words], key: Token, value: Token, out: &mut [u8]) -> usize {
-        let (array, gap) = (self.target.place.array_node, self.gap.nodes as usize);
+        let (array, gap) = (self.target.place.array_node, self.gap.nodes);
         for &container in &self.target.path[..self.target.depth] {
             rows[usize::from(container)][5] += 2;
         }
@@ -194,8 +194,8 @@ impl Edit<'_> {
         splice.move_texts(&mut rows[array + 1..gap]);
         splice.copy(self.gap.at);
         let pair = [
-            splice.put_token(self.texts.key, key, 0, self.gap.nodes + 1),
-            splice.put_token(self.texts.value, value, self.gap.ordinals + 1, self.gap.nodes + 2),
+            splice.put_token(self.texts.key, key, 0, gap + 1),
+            splice.put_token(self.texts.value, value, self.gap.ordinals + 1, gap + 2),
         ];
         let nodes = rows.len() - 2;
         self.raise(&mut rows[..nodes], &mut splice);
@@ -209,7 +209,7 @@ impl Edit<'_> {
     fn raise(&self, rows: &mut [Words], splice: &mut Splice) {
         let references = self.target.references.iter();
         let mut references = references.skip_while(|&(node, _)| node < self.gap.nodes);
-        for row in &mut rows[self.gap.nodes as usize..] {
+        for row in &mut rows[self.gap.nodes..] {
             row[5] += 2;
             row[1] += u64::from(row[1] > 0);
             match row[0] as u8 {

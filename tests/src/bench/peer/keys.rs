@@ -1,6 +1,6 @@
 //! The keys of one container, and whether one repeats an earlier one.
 
-use super::quick::Token;
+use super::quick::{Guess, Token};
 use super::set::{front, number_hash, text_hash, Set};
 use super::Words;
 use std::iter;
@@ -19,9 +19,22 @@ fn key(source: &[u8], tag: u8, content: u64, size: usize) -> Key<'_> {
     Key::Text(&source[content as usize..][..size])
 }
 
+#[inline(always)]
+fn hash(source: &[u8], tag: u8, content: u64, size: usize) -> u64 {
+    if tag == b'i' {
+        return number_hash(content);
+    }
+    text_hash(source, content as usize, size)
+}
+
 impl Token {
     pub fn key<'a>(&self, source: &'a [u8]) -> Key<'a> {
-        key(source, self.tag, self.content, self.size as usize)
+        key(source, self.tag, self.content, self.size)
+    }
+
+    #[inline(always)]
+    pub fn hash(&self, source: &[u8]) -> u64 {
+        hash(source, self.tag, self.content, self.size)
     }
 }
 
@@ -33,29 +46,33 @@ pub struct Seen<'a> {
 }
 
 impl<'a> Seen<'a> {
-    fn key(self, node: u32) -> Key<'a> {
-        let [tag, _, content, size, ..] = self.rows[node as usize];
+    fn key(self, node: usize) -> Key<'a> {
+        let [tag, _, content, size, ..] = self.rows[node];
         key(self.source, tag as u8, content, size as usize)
     }
 
-    fn hash(self, node: u32) -> u64 {
-        let [tag, _, content, size, ..] = self.rows[node as usize];
-        if tag == u64::from(b'i') {
-            return number_hash(content);
-        }
-        text_hash(self.source, content as u32, size as u32)
+    fn hash(self, node: usize) -> u64 {
+        let [tag, _, content, size, ..] = self.rows[node];
+        hash(self.source, tag as u8, content, size as usize)
+    }
+
+    /// Whether the key at a node equals another one, if that is of its container too.
+    #[cold]
+    fn is_equal(self, node: usize, other: usize, first: usize) -> bool {
+        let mut earlier = self.keys_between(first, node);
+        self.key(node) == self.key(other) && earlier.any(|key| key == other)
     }
 
     /// The nodes of a container's keys from the first on and before a node: behind a key stands its
     /// value, which says where it ends.
-    fn keys_between(self, first: u32, node: u32) -> impl Iterator<Item = u32> + 'a {
+    fn keys_between(self, first: usize, node: usize) -> impl Iterator<Item = usize> + 'a {
         let mut next = first;
         iter::from_fn(move || {
             let key = next;
             if key >= node {
                 return None;
             }
-            next = self.rows[key as usize + 1][5] as u32;
+            next = self.rows[key + 1][5] as usize;
             Some(key)
         })
     }
@@ -64,21 +81,23 @@ impl<'a> Seen<'a> {
 /// As long as the integers rise and the strings rise, each is above those before and in no set.
 pub struct Keys {
     /// The node of the first key.
-    first: u32,
+    first: usize,
+    pub guess: Guess,
     in_set: bool,
     /// The highest integer; the highest that there can be once all keys are in the set.
     highest: i64,
     /// The highest string: its first bytes as a number, its offset and size.
     highest_front: u64,
-    highest_from: u32,
-    highest_size: u32,
+    highest_from: usize,
+    highest_size: usize,
 }
 
 impl Keys {
     /// Of the container whose first key has this node.
-    pub fn new(first: u32) -> Self {
+    pub fn new(first: usize) -> Self {
         Keys {
             first,
+            guess: Guess::ONE,
             in_set: false,
             highest: i64::MIN,
             highest_front: 0,
@@ -88,7 +107,7 @@ impl Keys {
     }
 
     /// The node of the container.
-    pub fn container(&self) -> u32 {
+    pub fn container(&self) -> usize {
         self.first - 1
     }
 
@@ -97,7 +116,7 @@ impl Keys {
     pub fn rise(&mut self, source: &[u8], key: &Token) -> bool {
         match key.tag {
             b'i' => self.integer_rises(key.content as i64),
-            _ => self.text_rises(source, key.content as u32, key.size),
+            _ => self.text_rises(source, key.content as usize, key.size),
         }
     }
 
@@ -111,12 +130,12 @@ impl Keys {
     }
 
     #[inline(always)]
-    fn text_rises(&mut self, source: &[u8], from: u32, size: u32) -> bool {
+    fn text_rises(&mut self, source: &[u8], from: usize, size: usize) -> bool {
         if self.in_set {
             return false;
         }
         let front = front(source, from, size).swap_bytes();
-        let text = |from: u32, size: u32| &source[from as usize..][..size as usize];
+        let text = |from: usize, size: usize| &source[from..][..size];
         let rises = front > self.highest_front
             || front == self.highest_front
                 && text(from, size) > text(self.highest_from, self.highest_size);
@@ -130,17 +149,21 @@ impl Keys {
 
     /// Whether the key at a node, which does not rise, is there already. From the first such on all
     /// are put into the set.
-    pub fn repeat(&mut self, node: u32, seen: Seen, set: &mut Set) -> bool {
+    #[inline(always)]
+    pub fn repeat(&mut self, hash: u64, node: usize, seen: Seen, set: &mut Set) -> bool {
         if !self.in_set {
-            self.in_set = true;
-            self.highest = i64::MAX;
-            for earlier in seen.keys_between(self.first, node) {
-                set.repeats(seen.hash(earlier), self.first, earlier, |_| false);
-            }
+            self.put_earlier(node, seen, set);
         }
-        set.repeats(seen.hash(node), self.first, node, |other| {
-            let mut earlier = seen.keys_between(self.first, node);
-            seen.key(node) == seen.key(other) && earlier.any(|key| key == other)
-        })
+        let first = self.first;
+        set.repeats(hash, first, node, |other| seen.is_equal(node, other, first))
+    }
+
+    #[cold]
+    fn put_earlier(&mut self, node: usize, seen: Seen, set: &mut Set) {
+        self.in_set = true;
+        self.highest = i64::MAX;
+        for earlier in seen.keys_between(self.first, node) {
+            set.repeats(seen.hash(earlier), self.first, earlier, |_| false);
+        }
     }
 }

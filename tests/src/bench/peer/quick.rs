@@ -12,22 +12,22 @@ pub struct Token {
     pub tag: u8,
     /// Words 2 and 3 of its node.
     pub content: u64,
-    pub size: u32,
+    pub size: usize,
     /// The position behind it.
-    pub end: u32,
+    pub end: usize,
 }
 
 impl Token {
     /// Its node, which ends before another.
     #[inline(always)]
-    pub fn row(&self, ordinal: u32, end: u32) -> Words {
+    pub fn row(&self, ordinal: usize, end: usize) -> Words {
         [
             self.tag.into(),
-            ordinal.into(),
+            ordinal as u64,
             self.content,
-            self.size.into(),
+            self.size as u64,
             0,
-            end.into(),
+            end as u64,
         ]
     }
 }
@@ -36,8 +36,8 @@ impl Token {
 #[derive(Clone, Copy)]
 pub struct Reference {
     pub tag: u8,
-    pub named: u32,
-    pub end: u32,
+    pub named: usize,
+    pub end: usize,
 }
 
 /// A container up to its brace.
@@ -45,22 +45,22 @@ pub struct Head {
     pub tag: u8,
     /// Words 2 and 3 of its node.
     pub content: u64,
-    pub size: u32,
-    pub pairs: u32,
+    pub size: usize,
+    pub pairs: usize,
     /// Where the count of pairs stands.
-    pub count: Range<u32>,
-    pub end: u32,
+    pub count: Range<usize>,
+    pub end: usize,
 }
 
 impl Head {
     /// Its node, of which the end is to come.
-    pub fn row(&self, ordinal: u32) -> Words {
+    pub fn row(&self, ordinal: usize) -> Words {
         [
             self.tag.into(),
-            ordinal.into(),
+            ordinal as u64,
             self.content,
-            self.size.into(),
-            self.pairs.into(),
+            self.size as u64,
+            self.pairs as u64,
             0,
         ]
     }
@@ -77,7 +77,7 @@ pub const OBJECT_REFERENCE: u16 = u16::from_le_bytes(*b"r:");
 pub const REFERENCE: u16 = u16::from_le_bytes(*b"R:");
 
 /// So many digits never have a value that is out of range.
-const SAFE_DIGITS: u32 = 18;
+const SAFE_DIGITS: usize = 18;
 const POWERS: [u64; 9] = [
     1,
     10,
@@ -92,55 +92,114 @@ const POWERS: [u64; 9] = [
 
 /// A number in shortest form in front of a word, and the count of its digits.
 #[inline(always)]
-fn number(text: u64) -> Option<(u64, u32)> {
-    let lead = (text as u8).wrapping_sub(b'0');
-    // Most counts and lengths have one digit: then nothing behind waits for a multiplication.
-    if others(text) & 0x8000 != 0 {
-        return (lead < 10).then_some((lead.into(), 1));
+fn number(text: u64) -> Option<(u64, usize)> {
+    let digit = (text as u8).wrapping_sub(b'0');
+    // Most have one digit: what stands behind is then read without waiting for a multiplication.
+    if !byte(text, 1).is_ascii_digit() {
+        return (digit < 10).then_some((digit.into(), 1));
     }
     let count = first(others(text));
-    (lead.wrapping_sub(1) < 9).then(|| (value(text, count), count))
+    (digit.wrapping_sub(1) < 9).then(|| (value(text, count), count))
+}
+
+/// The count of digits that the last key had, as a guess of the next one's: where it is right, what
+/// stands behind is read without waiting for the digits to be counted.
+#[derive(Clone, Copy)]
+pub struct Guess {
+    mark: u64,
+    count: usize,
+}
+
+impl Guess {
+    /// One digit.
+    pub const ONE: Guess = Guess {
+        mark: 0x8000,
+        count: 1,
+    };
+
+    #[cold]
+    #[inline(never)]
+    fn of(mark: u64) -> Self {
+        Guess {
+            mark,
+            count: first(mark),
+        }
+    }
 }
 
 /// An integer from the word that its tag begins.
 #[inline(always)]
-pub fn integer(source: &[u8], at: u32, word: u64) -> Option<Token> {
+pub fn integer_key(source: &[u8], at: usize, word: u64, guess: &mut Guess) -> Option<Token> {
     let text = word >> 16;
-    let token = |content, end| Token {
+    let marks = others(text);
+    let mark = marks & marks.wrapping_neg();
+    if mark != guess.mark {
+        *guess = Guess::of(mark);
+    }
+    let count = guess.count;
+    let is_shortest = (text as u8).wrapping_sub(b'1') < 9;
+    if count < 6 && is_shortest && byte(text, count) == b';' {
+        return Some(integer_token(value(text, count), at + count + 3));
+    }
+    other_integer(source, at, text)
+}
+
+/// An integer from the word that its tag begins.
+#[inline(always)]
+pub fn integer(source: &[u8], at: usize, word: u64) -> Option<Token> {
+    let text = word >> 16;
+    // Most have one digit or a few. What stands behind one digit is read without counting.
+    if byte(text, 1) != b';' {
+        let count = first(others(text));
+        let is_shortest = (text as u8).wrapping_sub(b'1') < 9;
+        if count < 6 && is_shortest && byte(text, count) == b';' {
+            return Some(integer_token(value(text, count), at + count + 3));
+        }
+    }
+    other_integer(source, at, text)
+}
+
+/// One digit, a minus sign or more digits than a word has.
+#[inline(always)]
+fn other_integer(source: &[u8], at: usize, text: u64) -> Option<Token> {
+    if byte(text, 1) == b';' {
+        let digit = (text as u8).wrapping_sub(b'0');
+        return (digit < 10).then(|| integer_token(digit.into(), at + 4));
+    }
+    let (content, end) = long_integer(source, at + 2);
+    (end > 0).then(|| integer_token(content, end))
+}
+
+#[inline(always)]
+fn integer_token(content: u64, end: usize) -> Token {
+    Token {
         tag: b'i',
         content,
         size: 0,
         end,
-    };
-    match number(text) {
-        Some((content, count)) if count < 6 => {
-            (byte(text, count) == b';').then(|| token(content, at + count + 3))
-        }
-        _ => {
-            let (content, end) = long_integer(source, at + 2);
-            (end > 0).then(|| token(content, end))
-        }
     }
 }
 
 /// One with a minus sign or of more digits than a word has: its word 2 and the position behind it,
 /// 0 if it has another spelling. A pair goes through registers, where an option of it would not.
-fn long_integer(source: &[u8], from: u32) -> (u64, u32) {
-    let negative = source.get(from as usize) == Some(&b'-');
-    let first_digit = from + u32::from(negative);
+fn long_integer(source: &[u8], from: usize) -> (u64, usize) {
+    let negative = source.get(from) == Some(&b'-');
+    let first_digit = from + usize::from(negative);
     let (mut at, mut magnitude, mut count) = (first_digit, 0u64, 8);
     while count == 8 {
         let text = load(source, at);
         count = first(others(text));
         if count > 0 {
-            let power = POWERS[count as usize];
-            magnitude = magnitude.wrapping_mul(power).wrapping_add(value(text, count));
+            let power = POWERS[count];
+            magnitude = magnitude
+                .wrapping_mul(power)
+                .wrapping_add(value(text, count));
         }
         at += count;
     }
-    let is_shortest = matches!(source.get(first_digit as usize), Some(b'1'..=b'9'));
+    let is_shortest = matches!(source.get(first_digit), Some(b'1'..=b'9'));
     let is_safe = is_shortest && at - first_digit <= SAFE_DIGITS;
-    if !is_safe || source.get(at as usize) != Some(&b';') {
+    if !is_safe || source.get(at) != Some(&b';') {
         return (0, 0);
     }
     let content = if negative {
@@ -153,15 +212,15 @@ fn long_integer(source: &[u8], from: u32) -> (u64, u32) {
 
 /// A float from the word that its tag begins.
 #[inline(always)]
-pub fn float(source: &[u8], at: u32, word: u64) -> Option<Token> {
+pub fn float(source: &[u8], at: usize, word: u64) -> Option<Token> {
     let text = word >> 16;
     let size = match float::short_size(text) {
         Some(size) => size,
-        None => float::size(source, at + 2)?,
+        None => float::closed_size(source, at + 2)?,
     };
     Some(Token {
         tag: b'd',
-        content: u64::from(at + 2),
+        content: at as u64 + 2,
         size,
         end: at + size + 3,
     })
@@ -169,25 +228,25 @@ pub fn float(source: &[u8], at: u32, word: u64) -> Option<Token> {
 
 /// A string from the word that its tag begins.
 #[inline(always)]
-pub fn string(source: &[u8], at: u32, word: u64) -> Option<Token> {
+pub fn string(source: &[u8], at: usize, word: u64) -> Option<Token> {
     let text = word >> 16;
     let (size, count) = number(text)?;
     if count > 4 || (text >> (8 * count)) as u16 != u16::from_le_bytes(*b":\"") {
         return None;
     }
     let from = at + count + 4;
-    let close = (from + size as u32) as usize;
+    let close = from + size as usize;
     (source.get(close..close + 2)? == b"\";").then_some(Token {
         tag: b's',
-        content: from.into(),
-        size: size as u32,
-        end: close as u32 + 2,
+        content: from as u64,
+        size: size as usize,
+        end: close + 2,
     })
 }
 
 /// `N;`.
 #[inline(always)]
-pub fn null(at: u32) -> Option<Token> {
+pub fn null(at: usize) -> Option<Token> {
     Some(Token {
         tag: b'N',
         content: 0,
@@ -198,7 +257,7 @@ pub fn null(at: u32) -> Option<Token> {
 
 /// A boolean from the word that its tag begins.
 #[inline(always)]
-pub fn boolean(at: u32, word: u64) -> Option<Token> {
+pub fn boolean(at: usize, word: u64) -> Option<Token> {
     let text = word >> 16;
     let content = text & 1;
     (text as u16 & 0xFFFE == u16::from_le_bytes(*b"0;")).then_some(Token {
@@ -211,19 +270,19 @@ pub fn boolean(at: u32, word: u64) -> Option<Token> {
 
 /// A reference from the word that its tag begins. Numbers of five digits may be too high.
 #[inline(always)]
-pub fn reference(at: u32, word: u64) -> Option<Reference> {
+pub fn reference(at: usize, word: u64) -> Option<Reference> {
     let text = word >> 16;
     let (named, count) = number(text)?;
     (count < 5 && byte(text, count) == b';').then_some(Reference {
         tag: word as u8,
-        named: named as u32,
+        named: named as usize,
         end: at + count + 3,
     })
 }
 
 /// An array up to its brace from the word that its tag begins.
 #[inline(always)]
-pub fn array(at: u32, word: u64) -> Option<Head> {
+pub fn array(at: usize, word: u64) -> Option<Head> {
     let text = word >> 16;
     let (pairs, count) = number(text)?;
     let is_open = count < 5 && (text >> (8 * count)) as u16 == u16::from_le_bytes(*b":{");
@@ -231,7 +290,7 @@ pub fn array(at: u32, word: u64) -> Option<Head> {
         tag: b'a',
         content: 0,
         size: 0,
-        pairs: pairs as u32,
+        pairs: pairs as usize,
         count: at + 2..at + 2 + count,
         end: at + count + 4,
     })

@@ -13,9 +13,9 @@ use super::{refused, Step, Words, DEPTH_LIMIT, SOURCE_LIMIT};
 /// What was read: bytes, nodes and ordinals.
 #[derive(Clone, Copy, Default)]
 pub struct Cursor {
-    pub at: u32,
-    pub nodes: u32,
-    pub ordinals: u32,
+    pub at: usize,
+    pub nodes: usize,
+    pub ordinals: usize,
 }
 
 /// A cursor in one word, which what is not inlined returns in registers: else the loop's own cursor
@@ -24,7 +24,7 @@ struct Packed(u64);
 
 impl Cursor {
     fn packed(self) -> Packed {
-        let [at, nodes, ordinals] = [self.at, self.nodes, self.ordinals].map(u64::from);
+        let [at, nodes, ordinals] = [self.at, self.nodes, self.ordinals].map(|count| count as u64);
         Packed(at << 32 | nodes << 16 | ordinals)
     }
 }
@@ -32,9 +32,9 @@ impl Cursor {
 impl Packed {
     fn cursor(self) -> Cursor {
         Cursor {
-            at: (self.0 >> 32) as u32,
-            nodes: (self.0 >> 16 & 0xFFFF) as u32,
-            ordinals: (self.0 & 0xFFFF) as u32,
+            at: (self.0 >> 32) as usize,
+            nodes: (self.0 >> 16 & 0xFFFF) as usize,
+            ordinals: (self.0 & 0xFFFF) as usize,
         }
     }
 }
@@ -70,7 +70,7 @@ impl<'a, T: Trace> Reader<'a, T> {
             return refused(1, 0);
         }
         let end = self.value(Cursor::default(), 1)?;
-        if (end.at as usize) < self.source.len() {
+        if end.at < self.source.len() {
             return refused(10, end.at);
         }
         Ok(end)
@@ -80,11 +80,16 @@ impl<'a, T: Trace> Reader<'a, T> {
     #[inline(always)]
     fn value(&mut self, here: Cursor, depth: usize) -> Step<Cursor> {
         if depth > DEPTH_LIMIT {
-            return self.careful_value(here, depth).map(Packed::cursor);
+            return self.careful_value(here.packed(), depth).map(Packed::cursor);
         }
         let word = load(self.source, here.at);
+        // Apart from the others: most values are integers.
+        if word as u16 == quick::INTEGER {
+            if let Some(token) = quick::integer(self.source, here.at, word) {
+                return self.put_value(here, &token);
+            }
+        }
         let token = match word as u16 {
-            quick::INTEGER => quick::integer(self.source, here.at, word),
             quick::FLOAT => quick::float(self.source, here.at, word),
             quick::STRING => quick::string(self.source, here.at, word),
             quick::NULL => quick::null(here.at),
@@ -94,14 +99,18 @@ impl<'a, T: Trace> Reader<'a, T> {
                 None => None,
             },
             quick::ARRAY => match quick::array(here.at, word) {
-                Some(head) => return self.container(here, &head, depth).map(Packed::cursor),
+                Some(head) => {
+                    return self
+                        .container(here.packed(), &head, depth)
+                        .map(Packed::cursor)
+                }
                 None => None,
             },
             _ => None,
         };
         match token {
             Some(token) => self.put_value(here, &token),
-            None => self.careful_value(here, depth).map(Packed::cursor),
+            None => self.careful_value(here.packed(), depth).map(Packed::cursor),
         }
     }
 
@@ -114,7 +123,7 @@ impl<'a, T: Trace> Reader<'a, T> {
     /// The next node.
     #[inline(always)]
     fn put(&mut self, here: Cursor, row: Words) -> Step<()> {
-        let Some(place) = self.rows.get_mut(here.nodes as usize) else {
+        let Some(place) = self.rows.get_mut(here.nodes) else {
             return refused(7, here.at);
         };
         *place = row;
@@ -123,8 +132,8 @@ impl<'a, T: Trace> Reader<'a, T> {
 
     /// Behind a node that takes an ordinal.
     #[inline(always)]
-    fn numbered(&mut self, here: Cursor, end: u32) -> Cursor {
-        self.carriers[here.ordinals as usize] = here.nodes as u16;
+    fn numbered(&mut self, here: Cursor, end: usize) -> Cursor {
+        self.carriers[here.ordinals] = here.nodes as u16;
         Cursor {
             at: end,
             nodes: here.nodes + 1,
@@ -135,22 +144,22 @@ impl<'a, T: Trace> Reader<'a, T> {
     #[inline(always)]
     fn put_reference(&mut self, here: Cursor, reference: Reference) -> Step<Cursor> {
         let Reference { tag, named, end } = reference;
-        if here.nodes as usize == self.rows.len() {
+        if here.nodes == self.rows.len() {
             return refused(7, here.at);
         }
         if named == 0 || named > here.ordinals {
             return refused(6, here.at);
         }
-        let target = self.carriers[named as usize - 1];
+        let target = self.carriers[named - 1];
         let takes_ordinal = tag == b'r';
         let ordinal = if takes_ordinal { here.ordinals + 1 } else { 0 };
         let row = [
             tag.into(),
-            ordinal.into(),
-            named.into(),
+            ordinal as u64,
+            named as u64,
             0,
             target.into(),
-            u64::from(here.nodes + 1),
+            here.nodes as u64 + 1,
         ];
         self.put(here, row)?;
         self.trace.reference(here.nodes, here.at);
@@ -165,7 +174,8 @@ impl<'a, T: Trace> Reader<'a, T> {
     }
 
     #[inline(never)]
-    fn container(&mut self, here: Cursor, head: &Head, depth: usize) -> Step<Packed> {
+    fn container(&mut self, here: Packed, head: &Head, depth: usize) -> Step<Packed> {
+        let here = here.cursor();
         let node = here.nodes;
         self.put(here, head.row(here.ordinals + 1))?;
         self.trace.open(node, depth, head.count.clone());
@@ -175,27 +185,29 @@ impl<'a, T: Trace> Reader<'a, T> {
             now = self.key(now, head.tag, index, &mut keys)?;
             now = self.value(now, depth + 1)?;
         }
-        if self.source.get(now.at as usize) != Some(&b'}') {
+        if self.source.get(now.at) != Some(&b'}') {
             return refused(2, here.at);
         }
         self.trace.close(node, now);
         now.at += 1;
-        self.rows[node as usize][5] = now.nodes.into();
+        self.rows[node][5] = now.nodes as u64;
         Ok(now.packed())
     }
 
     #[inline(always)]
-    fn key(&mut self, here: Cursor, container: u8, index: u32, keys: &mut Keys) -> Step<Cursor> {
+    fn key(&mut self, here: Cursor, container: u8, index: usize, keys: &mut Keys) -> Step<Cursor> {
         let word = load(self.source, here.at);
         let token = match word as u16 {
-            quick::INTEGER if container == b'a' => quick::integer(self.source, here.at, word),
+            quick::INTEGER if container == b'a' => {
+                quick::integer_key(self.source, here.at, word, &mut keys.guess)
+            }
             quick::STRING => quick::string(self.source, here.at, word),
             _ => None,
         };
         match token {
             Some(token) => self.put_key(here, &token, index, keys),
             None => {
-                let careful = self.careful_key(here, container, index, keys);
+                let careful = self.careful_key(here.packed(), container, index, keys);
                 careful.map(Packed::cursor)
             }
         }
@@ -206,13 +218,16 @@ impl<'a, T: Trace> Reader<'a, T> {
         &mut self,
         here: Cursor,
         token: &Token,
-        index: u32,
+        index: usize,
         keys: &mut Keys,
     ) -> Step<Cursor> {
         self.put(here, token.row(0, here.nodes + 1))?;
         self.trace.key(keys.container(), index, here, token);
-        if !keys.rise(self.source, token) && self.repeats(here.nodes, keys) {
-            return refused(9, here.at);
+        if !keys.rise(self.source, token) {
+            let hash = token.hash(self.source);
+            if self.repeats(hash, here.nodes, keys) {
+                return refused(9, here.at);
+            }
         }
         Ok(Cursor {
             at: token.end,
@@ -223,17 +238,18 @@ impl<'a, T: Trace> Reader<'a, T> {
 
     /// Whether the key at a node, which does not rise, is an earlier one.
     #[inline(never)]
-    fn repeats(&mut self, node: u32, keys: &mut Keys) -> bool {
+    fn repeats(&mut self, hash: u64, node: usize, keys: &mut Keys) -> bool {
         let seen = Seen {
             source: self.source,
             rows: self.rows,
         };
-        keys.repeat(node, seen, &mut self.set)
+        keys.repeat(hash, node, seen, &mut self.set)
     }
 
     /// Any value, tested in the order of the refusals.
     #[inline(never)]
-    fn careful_value(&mut self, here: Cursor, depth: usize) -> Step<Packed> {
+    fn careful_value(&mut self, here: Packed, depth: usize) -> Step<Packed> {
+        let here = here.cursor();
         let tag = self.tag(here)?;
         if !matches!(
             tag,
@@ -248,7 +264,7 @@ impl<'a, T: Trace> Reader<'a, T> {
         match tag {
             b'a' | b'O' => {
                 let head = scan.head(tag)?;
-                self.container(here, &head, depth)
+                self.container(here.packed(), &head, depth)
             }
             b'r' | b'R' => {
                 let reference = scan.reference(tag)?;
@@ -265,11 +281,12 @@ impl<'a, T: Trace> Reader<'a, T> {
     #[inline(never)]
     fn careful_key(
         &mut self,
-        here: Cursor,
+        here: Packed,
         container: u8,
-        index: u32,
+        index: usize,
         keys: &mut Keys,
     ) -> Step<Packed> {
+        let here = here.cursor();
         let tag = self.tag(here)?;
         if tag != b's' && (tag != b'i' || container == b'O') {
             return refused(4, here.at);
@@ -281,7 +298,7 @@ impl<'a, T: Trace> Reader<'a, T> {
 
     /// The tag that is due here.
     fn tag(&self, here: Cursor) -> Step<u8> {
-        match self.source.get(here.at as usize) {
+        match self.source.get(here.at) {
             Some(&tag) => Ok(tag),
             None => refused(2, here.at),
         }
@@ -289,7 +306,7 @@ impl<'a, T: Trace> Reader<'a, T> {
 
     /// For a token whose node has room.
     fn scan(&mut self, here: Cursor) -> Step<Scan<'_, T>> {
-        if here.nodes as usize == self.rows.len() {
+        if here.nodes == self.rows.len() {
             return refused(7, here.at);
         }
         Ok(Scan::new(self.source, here.at, &mut self.trace))

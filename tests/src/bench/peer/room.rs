@@ -28,10 +28,17 @@ impl<'a> Lazy<'a> {
 
     #[inline(always)]
     pub fn words(&mut self) -> &mut [u32] {
+        if self.words.is_empty() {
+            self.clear();
+        }
+        self.words
+    }
+
+    #[cold]
+    fn clear(&mut self) {
         if let Some(room) = self.room.take() {
             self.words = room.cleared();
         }
-        self.words
     }
 }
 
@@ -79,8 +86,8 @@ impl<'a> Notes<'a> {
     }
 
     /// Notes two numbers below 65,536.
-    pub fn push(&mut self, first: u32, second: u32) {
-        self.words.words()[self.count] = first << 16 | second;
+    pub fn push(&mut self, first: usize, second: usize) {
+        self.words.words()[self.count] = (first << 16 | second) as u32;
         self.count += 1;
     }
 
@@ -88,8 +95,8 @@ impl<'a> Notes<'a> {
         self.count
     }
 
-    pub fn iter(&self) -> impl Iterator<Item = (u32, u32)> + '_ {
-        let split = |&word: &u32| (word >> 16, word & 0xFFFF);
+    pub fn iter(&self) -> impl Iterator<Item = (usize, usize)> + '_ {
+        let split = |&word: &u32| ((word >> 16) as usize, (word & 0xFFFF) as usize);
         self.words.words[..self.count].iter().map(split)
     }
 }

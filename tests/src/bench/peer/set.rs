@@ -25,13 +25,13 @@ impl<'a> Set<'a> {
     pub fn repeats(
         &mut self,
         hash: u64,
-        container: u32,
-        node: u32,
-        is_equal: impl Fn(u32) -> bool,
+        container: usize,
+        node: usize,
+        is_equal: impl Fn(usize) -> bool,
     ) -> bool {
         let slots = self.slots.words();
-        let entry = (hash as u32) << NODE_BITS | node;
-        let mut index = ((hash >> 32) as u32 ^ container) as usize;
+        let entry = (hash as u32) << NODE_BITS | node as u32;
+        let mut index = (hash >> 32) as usize ^ container;
         loop {
             let mask = slots.len() - 1;
             let slot = &mut slots[index & mask];
@@ -39,7 +39,7 @@ impl<'a> Set<'a> {
                 *slot = entry;
                 return false;
             }
-            if (*slot ^ entry) >> NODE_BITS == 0 && is_equal(*slot & NODE_MASK) {
+            if (*slot ^ entry) >> NODE_BITS == 0 && is_equal((*slot & NODE_MASK) as usize) {
                 return true;
             }
             index += 1;
@@ -54,8 +54,8 @@ pub fn number_hash(value: u64) -> u64 {
 
 /// Eight bytes a step, the last eight of a longer text a second time where they are not eight more.
 #[inline(always)]
-pub fn text_hash(source: &[u8], from: u32, size: u32) -> u64 {
-    let start = u64::from(size);
+pub fn text_hash(source: &[u8], from: usize, size: usize) -> u64 {
+    let start = size as u64;
     if size <= 8 {
         return folded(start ^ front(source, from, size), SPREAD);
     }
@@ -69,7 +69,7 @@ pub fn text_hash(source: &[u8], from: u32, size: u32) -> u64 {
 
 /// The first eight bytes of a text, zeros for those that it does not have.
 #[inline(always)]
-pub fn front(source: &[u8], from: u32, size: u32) -> u64 {
+pub fn front(source: &[u8], from: usize, size: usize) -> u64 {
     let word = load(source, from);
     if size >= 8 {
         return word;

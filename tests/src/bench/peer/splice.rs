@@ -29,33 +29,29 @@ impl<'s, 'o> Splice<'s, 'o> {
     }
 
     /// Copies the source up to a position.
-    pub fn copy(&mut self, end: u32) {
-        self.copy_to(end as usize);
-    }
-
-    fn copy_to(&mut self, end: usize) {
+    pub fn copy(&mut self, end: usize) {
         self.put(&self.source[self.read..end]);
         self.read = end;
     }
 
     pub fn copy_rest(&mut self) {
-        self.copy_to(self.source.len());
+        self.copy(self.source.len());
     }
 
     /// Copies up to some bytes and leaves them out.
-    pub fn skip(&mut self, bytes: Range<u32>) {
+    pub fn skip(&mut self, bytes: Range<usize>) {
         self.copy(bytes.start);
-        self.read = bytes.end as usize;
+        self.read = bytes.end;
     }
 
     /// Copies up to a numeral and has another number in its place.
-    pub fn respell(&mut self, numeral: Range<u32>, number: u64) {
+    pub fn respell(&mut self, numeral: Range<usize>, number: u64) {
         self.skip(numeral);
         self.put(Digits::of(number).text());
     }
 
     /// A key or value that stands here, as its node.
-    pub fn put_token(&mut self, text: &[u8], token: Token, ordinal: u32, end: u32) -> Words {
+    pub fn put_token(&mut self, text: &[u8], token: Token, ordinal: usize, end: usize) -> Words {
         let mut row = token.row(ordinal, end);
         if has_text(&row) {
             row[2] += self.written as u64;

@@ -6,15 +6,15 @@ use std::ops::Range;
 
 pub trait Trace {
     /// Bytes of a numeral that its shortest form leaves out.
-    fn surplus(&mut self, _bytes: Range<u32>) {}
+    fn surplus(&mut self, _bytes: Range<usize>) {}
     /// A reference's node, and the position of its tag.
-    fn reference(&mut self, _node: u32, _start: u32) {}
+    fn reference(&mut self, _node: usize, _start: usize) {}
     /// A container's node and depth, and where the count of its pairs stands.
-    fn open(&mut self, _container: u32, _depth: usize, _count: Range<u32>) {}
+    fn open(&mut self, _container: usize, _depth: usize, _count: Range<usize>) {}
     /// The key of a container's pair with this index; the cursor is before it.
-    fn key(&mut self, _container: u32, _index: u32, _before: Cursor, _key: &Token) {}
+    fn key(&mut self, _container: usize, _index: usize, _before: Cursor, _key: &Token) {}
     /// The cursor is before a container's `}`.
-    fn close(&mut self, _container: u32, _before: Cursor) {}
+    fn close(&mut self, _container: usize, _before: Cursor) {}
 }
 
 /// Nothing.

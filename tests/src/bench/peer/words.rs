@@ -2,8 +2,7 @@
 
 /// The eight bytes from a position on; zeros, which no text has to have, for those past the end.
 #[inline(always)]
-pub fn load(source: &[u8], at: u32) -> u64 {
-    let at = at as usize;
+pub fn load(source: &[u8], at: usize) -> u64 {
     match source.get(at..at + 8) {
         Some(bytes) => u64::from_le_bytes(bytes.try_into().unwrap_or_default()),
         None => load_last(source, at),
@@ -31,19 +30,19 @@ pub fn others(word: u64) -> u64 {
 
 /// The index of the first byte of which a bit is set; 8 if none is.
 #[inline(always)]
-pub fn first(bits: u64) -> u32 {
-    bits.trailing_zeros() / 8
+pub fn first(bits: u64) -> usize {
+    (bits.trailing_zeros() / 8) as usize
 }
 
 /// The byte at an index below 8.
 #[inline(always)]
-pub fn byte(word: u64, index: u32) -> u8 {
+pub fn byte(word: u64, index: usize) -> u8 {
     (word >> (8 * index)) as u8
 }
 
 /// The value of so many digits in front, one to eight.
 #[inline(always)]
-pub fn value(word: u64, count: u32) -> u64 {
+pub fn value(word: u64, count: usize) -> u64 {
     // Zeros in front of them, so that they are eight; then pairs, fours and all by their weights.
     let digits = (word ^ all(b'0')) << (64 - 8 * count);
     let pairs = digits.wrapping_mul(10).wrapping_add(digits >> 8);
@@ -55,7 +54,7 @@ pub fn value(word: u64, count: u32) -> u64 {
 
 /// The end of the run of digits that begins at a position.
 #[inline(always)]
-pub fn run_end(source: &[u8], mut at: u32) -> u32 {
+pub fn run_end(source: &[u8], mut at: usize) -> usize {
     loop {
         let count = first(others(load(source, at)));
         at += count;
