@@ -11,10 +11,10 @@ use lib.Seq.{getD-set-same, getD-set-other, set-out}
 use borrow.Author.Tests.{lt-ltb, le-ltb, eq-eqb, eqb-true, eqb-false, ltb-true, ltb-false}
 use Rattle.format.specs.Syntax.{Key}
 use Rattle.format.specs.Keys.{sameKey, hasKey}
-use Rattle.marks.specs.Hash.{hashKey}
-use Rattle.marks.specs.Marks.{slotOf, maskOf, covers, marked, mark, Entered, Grows, AllMarked}
-use Rattle.marks.proofs.Covers.{set-covers, more-covers}
-use Rattle.marks.proofs.Hashing.{one-hash}
+use Rattle.key_filter.specs.Hash.{hashKey}
+use Rattle.key_filter.specs.Filter.{slotOf, maskOf, covers, marked, mark, Entered, Grows, AllMarked}
+use Rattle.key_filter.proofs.Covers.{set-covers, more-covers}
+use Rattle.key_filter.proofs.Hashing.{one-hash}
 
 pub marked-in : (m : List ℕ) (h : ℕ) → slotOf h < length m → marked m h ≡ eqb (bitAnd (getD m (slotOf h) 0) (maskOf h)) (maskOf h)
 unfolding marked covers
@@ -103,16 +103,16 @@ new-key m holder k (j ∷ ks) e a = rw (differs (sameKey k j) refl) (new-key m h
 -- ---- what entering answers
 
 pub entered-out : (m : List ℕ) (h : ℕ) → length m ≤ slotOf h → Entered m m h true
-entered-out m h l = record { answer = sym (marked-out m h l); marks = sym (mark-out m h l) }
+entered-out m h l = record { answer = sym (marked-out m h l); filter = sym (mark-out m h l) }
 
 pub entered-in : (m : List ℕ) (h mask : ℕ) → slotOf h < length m → mask ≡ maskOf h
     → Entered m (set m (slotOf h) (bitOr (getD m (slotOf h) 0) mask)) h (eqb (bitAnd (getD m (slotOf h) 0) mask) mask)
 unfolding mark
-entered-in m h mask l e = rw e (record { answer = sym (marked-in m h l); marks = refl })
+entered-in m h mask l e = rw e (record { answer = sym (marked-in m h l); filter = refl })
 
 module _ {m m′ : List ℕ} {h : ℕ} {r : Bool} (d : Entered m m′ h r) where
   pub entered-grows : Grows m m′
-  entered-grows = subst (Grows m) (sym (d .marks)) (mark-grows m h)
+  entered-grows = subst (Grows m) (sym (d .filter)) (mark-grows m h)
 
   pub entered-marked : marked m′ h ≡ true
-  entered-marked = ap (λ (x : List ℕ). marked x h) (d .marks) ∙ mark-marked m h
+  entered-marked = ap (λ (x : List ℕ). marked x h) (d .filter) ∙ mark-marked m h

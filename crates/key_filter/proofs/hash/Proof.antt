@@ -1,12 +1,12 @@
--- `marks::hash` meets its contract. Assumes nothing.
+-- `key_filter::hash` meets its contract. Assumes nothing.
 use Prim.Native.Nat.{ℕ}
 use mathlib.Core.Path.{sym, ap, _∙_}
 use mathlib.Core.List.{List}
 use borrow.Author.Needs.{needs}
-use Rattle.marks.specs.Hash.{spread, mixedBytes, start}
-use Rattle.marks.proofs.Hashing as hashing
-use Rattle.marks.proofs.hash.Statement.{statement}
-use Rattle.marks.proofs.hash.Tie as tie
+use Rattle.key_filter.specs.Hash.{spread, mixedBytes, start}
+use Rattle.key_filter.proofs.Hashing as hashing
+use Rattle.key_filter.proofs.hash.Statement.{statement}
+use Rattle.key_filter.proofs.hash.Tie as tie
 
 mul-start : tie.Need-mul-start
 mul-start c = search needs

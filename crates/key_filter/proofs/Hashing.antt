@@ -17,7 +17,7 @@ use Rattle.format.proofs.Keys.{equal-keys}
 use Rattle.keys.specs.declared.KeyWords.{KeyWords}
 use Rattle.keys.specs.KeyWords.{textOf, Held}
 use Rattle.keys.proofs.SameWords.{text-part}
-use Rattle.marks.specs.Hash.{mixed, spread, mixedBytes, start, hashWords, hashKey}
+use Rattle.key_filter.specs.Hash.{mixed, spread, mixedBytes, start, hashWords, hashKey}
 
 -- ---- byte by byte
 

@@ -4,8 +4,8 @@ use format::kind::Kind;
 use keys::KeyWords;
 use keys::text_of;
 ghost use mathlib.Core.Path.{_≡_};
-ghost use Rattle.marks.specs.Hash.{mixed, spread, mixedBytes, hashWords};
-ghost use Rattle.marks.specs.Marks.{maskOf, Entered};
+ghost use Rattle.key_filter.specs.Hash.{mixed, spread, mixedBytes, hashWords};
+ghost use Rattle.key_filter.specs.Filter.{maskOf, Entered};
 
 // Word 0 of an integer key.
 const INT_TAG: u64 = Kind::INT as u64;
@@ -72,15 +72,15 @@ fn mask_of(hash: u64) -> u64
 }
 
 // Whether a hash is marked already, which it then is. One whose word is not lent counts as marked.
-pub fn enter(marks: &mut [u64], hash: u64) -> bool
-    ensures { λ r. ⌜ Entered (now (marks .entry)) (now (marks .exit)) hash r ⌝ }
+pub fn enter(filter: &mut [u64], hash: u64) -> bool
+    ensures { λ r. ⌜ Entered (now (filter .entry)) (now (filter .exit)) hash r ⌝ }
 {
     let slot = (hash >> 52) as usize;
-    if marks.len() <= slot {
+    if filter.len() <= slot {
         return true;
     }
     let mask = mask_of(hash);
-    let word = marks[slot];
-    marks[slot] = word | mask;
+    let word = filter[slot];
+    filter[slot] = word | mask;
     word & mask == mask
 }

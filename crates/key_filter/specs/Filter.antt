@@ -1,4 +1,4 @@
--- The marks of hashes: four bits of one word each.
+-- A Bloom filter of hashes: four bits of one word each.
 use mathlib.Core.Path.{_≡_}
 use mathlib.Core.List.{List, [], _∷_}
 use mathlib.Core.Bool.{Bool, true, false}
@@ -7,7 +7,7 @@ use lib.Dec.{eqb, ltb}
 use lib.Bits.{bitAnd, bitOr}
 use lib.ListN.{length, getD, set}
 use Rattle.format.specs.Syntax.{Key}
-use Rattle.marks.specs.Hash.{hashKey}
+use Rattle.key_filter.specs.Hash.{hashKey}
 
 unfoldable pub slotOf : ℕ → ℕ
 slotOf h = h / 2 ^ 52
@@ -31,7 +31,7 @@ mark m h = set m (slotOf h) (bitOr (getD m (slotOf h) 0) (maskOf h))
 
 pub record Entered (m m′ : List ℕ) (h : ℕ) (r : Bool) : Type 0 where
   pub answer : r ≡ marked m h
-  pub marks : m′ ≡ mark m h
+  pub filter : m′ ≡ mark m h
 
 -- no mark is lost
 pub record Grows (m m′ : List ℕ) : Type 0 where

@@ -1,13 +1,13 @@
--- `marks::mixed_bytes` meets its contract. Assumes nothing.
+-- `key_filter::mixed_bytes` meets its contract. Assumes nothing.
 use Prim.Native.Nat.{_-_, _≤_}
 use native.Mathlib.Omega.{arith}
 use mathlib.Core.Path.{_≡_, refl}
 use borrow.Author.Needs.{needs}
 use lib.ListN.{length, drop}
-use Rattle.marks.specs.Hash.{mixedBytes}
-use Rattle.marks.proofs.Hashing as hash
-use Rattle.marks.proofs.mixed_bytes.Statement.{statement}
-use Rattle.marks.proofs.mixed_bytes.Tie as tie
+use Rattle.key_filter.specs.Hash.{mixedBytes}
+use Rattle.key_filter.proofs.Hashing as hash
+use Rattle.key_filter.proofs.mixed_bytes.Statement.{statement}
+use Rattle.key_filter.proofs.mixed_bytes.Tie as tie
 
 abbrev Inv-loop : tie.InvT-loop
 Inv-loop text start hash₀ i₀ hash i = (i ≤ length text) × (mixedBytes hash (drop i text) ≡ mixedBytes start text)

@@ -1,9 +1,9 @@
--- `marks::enter` meets its contract. Assumes nothing.
+-- `key_filter::enter` meets its contract. Assumes nothing.
 use borrow.Author.Needs.{needs}
-use Rattle.marks.specs.Marks.{slotOf}
-use Rattle.marks.proofs.Marking as marking
-use Rattle.marks.proofs.enter.Statement.{statement}
-use Rattle.marks.proofs.enter.Tie as tie
+use Rattle.key_filter.specs.Filter.{slotOf}
+use Rattle.key_filter.proofs.Marking as marking
+use Rattle.key_filter.proofs.enter.Statement.{statement}
+use Rattle.key_filter.proofs.enter.Tie as tie
 
 returns : tie.Need-returns
 unfolding slotOf
@@ -18,11 +18,11 @@ mul-word c = search needs
 slice-read-word : tie.Need-slice-read-word
 slice-read-word c = search needs
 
-mul-marks : tie.Need-mul-marks
-mul-marks c = search needs
+mul-filter : tie.Need-mul-filter
+mul-filter c = search needs
 
-slice-write-marks : tie.Need-slice-write-marks
-slice-write-marks c = search needs
+slice-write-filter : tie.Need-slice-write-filter
+slice-write-filter c = search needs
 
 same-length : tie.Need-same-length
 same-length c = search needs
@@ -39,7 +39,7 @@ enter-spec =
     mask-of-requires
     mul-word
     slice-read-word
-    mul-marks
-    slice-write-marks
+    mul-filter
+    slice-write-filter
     same-length
     returns-2)
