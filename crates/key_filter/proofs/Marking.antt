@@ -1,14 +1,14 @@
 -- What marking keeps: a key that is not marked is none of those marked before. Assumes nothing.
-use Prim.Native.Nat.{ℕ, _≤_, _<_}
+use Prim.Native.Nat.{ℕ, _-_, _/_, _^_, _<_}
 use native.Mathlib.Omega.{arith}
 use mathlib.Core.Path.{_≡_, refl, sym, ap, _∙_, subst}
 use mathlib.Core.Bool.{Bool, true, false, _||_}
 use mathlib.Core.List.{List, [], _∷_, _++_}
-use lib.Dec.{T, eqb, ltb}
-use lib.Bits.{bitAnd, bitOr}
+use lib.Dec.{T, eqb}
+use lib.Bits.{bitAnd, bitOr, and-le-r}
 use lib.ListN.{length, getD, set, length-set}
 use lib.Seq.{getD-set-same, getD-set-other, set-out}
-use borrow.Author.Tests.{lt-ltb, le-ltb, eq-eqb, eqb-true, eqb-false, ltb-true, ltb-false}
+use borrow.Author.Tests.{eq-eqb, ne-eqb, eqb-true, eqb-false}
 use Rattle.format.specs.Syntax.{Key}
 use Rattle.format.specs.Keys.{sameKey, hasKey}
 use Rattle.key_filter.specs.Hash.{hashKey}
@@ -16,56 +16,73 @@ use Rattle.key_filter.specs.Filter.{slotOf, maskOf, covers, marked, mark
 use Rattle.key_filter.proofs.Covers.{set-covers, more-covers}
 use Rattle.key_filter.proofs.Hashing.{one-hash}
 
-pub marked-in : (m : List ℕ) (h : ℕ) → slotOf h < length m → marked m h ≡ eqb (bitAnd (getD m (slotOf h) 0) (maskOf h)) (maskOf h)
-unfolding marked covers
-marked-in m h l = rw (marked, lt-ltb (slotOf h) (length m) l)
+-- a filter of n words, of which there is one at least
+module _ (m : List ℕ) (n : ℕ) (long : length m ≡ n) (h : ℕ) where
+  abbrev slot : ℕ
+  slot = slotOf n h
 
-pub marked-out : (m : List ℕ) (h : ℕ) → length m ≤ slotOf h → marked m h ≡ true
+  module _ (some : 0 < n) where
+    pub slot-in : slot < length m
+    unfolding slotOf
+    slot-in = omega (arith, and-le-r (h / 2 ^ 44) (n - 1))
+
+    pub marked-in : marked m h ≡ eqb (bitAnd (getD m slot 0) (maskOf h)) (maskOf h)
+    unfolding marked covers
+    marked-in = rw (marked, long, ne-eqb n 0 (λ e. omega arith), long)
+
+pub marked-none : (m : List ℕ) (h : ℕ) → length m ≡ 0 → marked m h ≡ true
 unfolding marked
-marked-out m h l = rw (marked, le-ltb (slotOf h) (length m) l)
+marked-none m h e = rw (marked, e)
 
-pub mark-out : (m : List ℕ) (h : ℕ) → length m ≤ slotOf h → mark m h ≡ m
+mark-none : (m : List ℕ) (h : ℕ) → length m ≡ 0 → mark m h ≡ m
 unfolding mark
-mark-out m h l = set-out m (slotOf h) (bitOr (getD m (slotOf h) 0) (maskOf h)) l
+mark-none m h e = set-out m (slotOf (length m) h) (bitOr (getD m (slotOf (length m) h) 0) (maskOf h)) (omega arith)
 
 mark-length : (m : List ℕ) (h : ℕ) → length (mark m h) ≡ length m
 unfolding mark
-mark-length m h = length-set m (slotOf h) (bitOr (getD m (slotOf h) 0) (maskOf h))
+mark-length m h = length-set m (slotOf (length m) h) (bitOr (getD m (slotOf (length m) h) 0) (maskOf h))
 
-word-at : (m : List ℕ) (h i : ℕ) → i ≡ slotOf h → i < length m → getD (mark m h) i 0 ≡ bitOr (getD m i 0) (maskOf h)
+word-at : (m : List ℕ) (h i : ℕ) → i ≡ slotOf (length m) h → i < length m → getD (mark m h) i 0 ≡ bitOr (getD m i 0) (maskOf h)
 unfolding mark
 word-at m h i e l = rw (← e) (getD-set-same m i (bitOr (getD m i 0) (maskOf h)) 0 l)
 
-word-other : (m : List ℕ) (h i : ℕ) → (i ≡ slotOf h → ⊥) → getD (mark m h) i 0 ≡ getD m i 0
+word-other : (m : List ℕ) (h i : ℕ) → (i ≡ slotOf (length m) h → ⊥) → getD (mark m h) i 0 ≡ getD m i 0
 unfolding mark
-word-other m h i n = getD-set-other m (slotOf h) i (bitOr (getD m (slotOf h) 0) (maskOf h)) 0 n
+word-other m h i n = getD-set-other m (slotOf (length m) h) i (bitOr (getD m (slotOf (length m) h) 0) (maskOf h)) 0 n
 
 -- a hash is marked once it is entered
 pub mark-marked : (m : List ℕ) (h : ℕ) → marked (mark m h) h ≡ true
-mark-marked m h = go (ltb (slotOf h) (length m)) refl
+mark-marked m h = go (eqb (length m) 0) refl
   where
-    go : (b : Bool) → ltb (slotOf h) (length m) ≡ b → marked (mark m h) h ≡ true
-    go true e =
-        let l = ltb-true (slotOf h) (length m) e in
-        marked-in (mark m h) h (omega (arith, mark-length m h))
-        ∙ eq-eqb (bitAnd (getD (mark m h) (slotOf h) 0) (maskOf h)) (maskOf h) (ap (λ (w : ℕ). bitAnd w (maskOf h)) (word-at m h (slotOf h) refl l) ∙ set-covers (getD m (slotOf h) 0) (maskOf h))
-    go false e = marked-out (mark m h) h (omega (arith, mark-length m h, ltb-false (slotOf h) (length m) e))
+    go : (b : Bool) → eqb (length m) 0 ≡ b → marked (mark m h) h ≡ true
+    go true e = marked-none (mark m h) h (mark-length m h ∙ eqb-true (length m) 0 e)
+    go false e =
+        let some : 0 < length m = omega (arith, eqb-false (length m) 0 e) in
+        let at = slotOf (length m) h in
+        marked-in (mark m h) (length m) (mark-length m h) h some
+        ∙ eq-eqb (bitAnd (getD (mark m h) at 0) (maskOf h)) (maskOf h)
+        (ap (λ (w : ℕ). bitAnd w (maskOf h)) (word-at m h at refl (slot-in m (length m) refl h some)) ∙ set-covers (getD m at 0) (maskOf h))
 
 -- and stays so
 pub mark-grows : (m : List ℕ) (h : ℕ) → Grows m (mark m h)
-mark-grows m h = record { keeps = λ g q. go g q (ltb (slotOf g) (length m)) refl (eqb (slotOf g) (slotOf h)) refl }
+mark-grows m h = record { keeps = λ g q. go g q (eqb (length m) 0) refl }
   where
-    go : (g : ℕ) → marked m g ≡ true → (b : Bool) → ltb (slotOf g) (length m) ≡ b → (d : Bool) → eqb (slotOf g) (slotOf h) ≡ d → marked (mark m h) g ≡ true
-    go g q false e d f = marked-out (mark m h) g (omega (arith, mark-length m h, ltb-false (slotOf g) (length m) e))
-    go g q true e d f =
-        let l = ltb-true (slotOf g) (length m) e in
-        let c : bitAnd (getD m (slotOf g) 0) (maskOf g) ≡ maskOf g = eqb-true (bitAnd (getD m (slotOf g) 0) (maskOf g)) (maskOf g) (sym (marked-in m g l) ∙ q) in
-        marked-in (mark m h) g (omega (arith, mark-length m h))
-        ∙ eq-eqb (bitAnd (getD (mark m h) (slotOf g) 0) (maskOf g)) (maskOf g) (word d f c)
-      where
-        word : (d : Bool) → eqb (slotOf g) (slotOf h) ≡ d → bitAnd (getD m (slotOf g) 0) (maskOf g) ≡ maskOf g → bitAnd (getD (mark m h) (slotOf g) 0) (maskOf g) ≡ maskOf g
-        word false f c = ap (λ (w : ℕ). bitAnd w (maskOf g)) (word-other m h (slotOf g) (eqb-false (slotOf g) (slotOf h) f)) ∙ c
-        word true f c = ap (λ (w : ℕ). bitAnd w (maskOf g)) (word-at m h (slotOf g) (eqb-true (slotOf g) (slotOf h) f) (ltb-true (slotOf g) (length m) e)) ∙ more-covers (getD m (slotOf g) 0) (maskOf h) (maskOf g) c
+    word : (g : ℕ) → slotOf (length m) g < length m → (d : Bool) → eqb (slotOf (length m) g) (slotOf (length m) h) ≡ d → bitAnd (getD m (slotOf (length m) g) 0) (maskOf g) ≡ maskOf g
+        → bitAnd (getD (mark m h) (slotOf (length m) g) 0) (maskOf g) ≡ maskOf g
+    word g l false f c = ap (λ (w : ℕ). bitAnd w (maskOf g)) (word-other m h (slotOf (length m) g) (eqb-false (slotOf (length m) g) (slotOf (length m) h) f)) ∙ c
+    word g l true f c =
+        ap (λ (w : ℕ). bitAnd w (maskOf g)) (word-at m h (slotOf (length m) g) (eqb-true (slotOf (length m) g) (slotOf (length m) h) f) l)
+        ∙ more-covers (getD m (slotOf (length m) g) 0) (maskOf h) (maskOf g) c
+
+    go : (g : ℕ) → marked m g ≡ true → (b : Bool) → eqb (length m) 0 ≡ b → marked (mark m h) g ≡ true
+    go g q true e = marked-none (mark m h) g (mark-length m h ∙ eqb-true (length m) 0 e)
+    go g q false e =
+        let some : 0 < length m = omega (arith, eqb-false (length m) 0 e) in
+        let at = slotOf (length m) g in
+        marked-in (mark m h) (length m) (mark-length m h) g some
+        ∙ eq-eqb (bitAnd (getD (mark m h) at 0) (maskOf g)) (maskOf g)
+        (word g (slot-in m (length m) refl g some) (eqb at (slotOf (length m) h)) refl
+        (eqb-true (bitAnd (getD m at 0) (maskOf g)) (maskOf g) (sym (marked-in m (length m) refl g some) ∙ q)))
 
 pub grows-none : (m : List ℕ) → Grows m m
 grows-none m = record { keeps = λ h q. q }
@@ -86,7 +103,7 @@ all-snoc m holder (j ∷ ks) k a e = (a .0, all-snoc m holder ks k (a .1) e)
 -- where there are no words all are
 pub all-none : (m : List ℕ) (holder : ℕ) (ks : List Key) → length m ≡ 0 → AllMarked m holder ks
 all-none m holder [] e = tt
-all-none m holder (k ∷ ks) e = (marked-out m (hashKey holder k) (omega arith), all-none m holder ks e)
+all-none m holder (k ∷ ks) e = (marked-none m (hashKey holder k) e, all-none m holder ks e)
 
 -- A KEY THAT IS NOT MARKED IS NEW
 pub new-key : (m : List ℕ) (holder : ℕ) (k : Key) (ks : List Key) → marked m (hashKey holder k) ≡ false → AllMarked m holder ks → hasKey k ks ≡ false
@@ -102,13 +119,13 @@ new-key m holder k (j ∷ ks) e a = rw (differs (sameKey k j) refl) (new-key m h
 
 -- ---- what entering answers
 
-pub entered-out : (m : List ℕ) (h : ℕ) → length m ≤ slotOf h → Entered m m h true
-entered-out m h l = record { answer = sym (marked-out m h l); filter = sym (mark-out m h l) }
+pub entered-none : (m : List ℕ) (h : ℕ) → length m ≡ 0 → Entered m m h true
+entered-none m h e = record { answer = sym (marked-none m h e); filter = sym (mark-none m h e) }
 
-pub entered-in : (m : List ℕ) (h mask : ℕ) → slotOf h < length m → mask ≡ maskOf h
-    → Entered m (set m (slotOf h) (bitOr (getD m (slotOf h) 0) mask)) h (eqb (bitAnd (getD m (slotOf h) 0) mask) mask)
+pub entered-in : (m : List ℕ) (h slot mask : ℕ) → slot ≡ slotOf (length m) h → slot < length m → mask ≡ maskOf h
+    → Entered m (set m slot (bitOr (getD m slot 0) mask)) h (eqb (bitAnd (getD m slot 0) mask) mask)
 unfolding mark
-entered-in m h mask l e = rw e (record { answer = sym (marked-in m h l); filter = refl })
+entered-in m h slot mask e l f = rw (e, f) (record { answer = sym (marked-in m (length m) refl h (omega arith)); filter = refl })
 
 module _ {m m′ : List ℕ} {h : ℕ} {r : Bool} (d : Entered m m′ h r) where
   pub entered-grows : Grows m m′

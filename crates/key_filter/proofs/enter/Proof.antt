@@ -1,13 +1,14 @@
 -- `key_filter::enter` meets its contract. Assumes nothing.
-use borrow.Author.Needs.{needs}
-use Rattle.key_filter.specs.Filter.{slotOf}
 use Rattle.key_filter.proofs.Marking as marking
+use borrow.Author.Needs.{needs}
 use Rattle.key_filter.proofs.enter.Statement.{statement}
 use Rattle.key_filter.proofs.enter.Tie as tie
 
 returns : tie.Need-returns
-unfolding slotOf
-returns c = marking.entered-out _ _ (c .if1 .taken)
+returns c = marking.entered-none _ _ (c .if1 .taken)
+
+slot-of-requires : tie.Need-slot-of-requires
+slot-of-requires c κs = search needs
 
 mask-of-requires : tie.Need-mask-of-requires
 mask-of-requires c κs = search needs
@@ -28,14 +29,16 @@ same-length : tie.Need-same-length
 same-length c = search needs
 
 returns-2 : tie.Need-returns-2
-unfolding slotOf
-returns-2 c = marking.entered-in _ _ _ (c .before .before .if1 .left) (c .before .mask-of .ensures)
+returns-2 c =
+    let slot = c .before .before .slot-of .ensures in
+    marking.entered-in _ _ _ _ (slot .0) (slot .1) (c .before .mask-of .ensures)
 
 pub enter-spec : {M : Type 1} → statement M
 enter-spec =
     tie.close
     (tie.spec
     returns
+    slot-of-requires
     mask-of-requires
     mul-word
     slice-read-word
