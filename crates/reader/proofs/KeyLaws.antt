@@ -17,10 +17,10 @@ use Rattle.format.proofs.Words.{same-word}
 use Rattle.keys.specs.declared.KeyWords.{KeyWords}
 use Rattle.keys.specs.KeyWords.{sameWords, Held}
 use Rattle.keys.proofs.SameWords.{words-same}
-use Rattle.marks.specs.Hash.{hashWords, hashKey}
-use Rattle.marks.specs.Marks.{marked, Entered, Grows, AllMarked}
-use Rattle.marks.proofs.Hashing.{hash-held}
-use Rattle.marks.proofs.Marking.{grows-none, grows-on, entered-grows, entered-marked, all-grow, all-snoc, all-none, new-key}
+use Rattle.key_filter.specs.Hash.{hashWords, hashKey}
+use Rattle.key_filter.specs.Filter.{marked, Entered, Grows, AllMarked}
+use Rattle.key_filter.proofs.Hashing.{hash-held}
+use Rattle.key_filter.proofs.Marking.{grows-none, grows-on, entered-grows, entered-marked, all-grow, all-snoc, all-none, new-key}
 use Rattle.reader.specs.declared.seen.Seen.{Seen}
 use Rattle.reader.specs.Nodes.{wordAt}
 use Rattle.reader.specs.KeysSeen.{rank, keyWords, Chain, none, pair, Walk, KeyUnder, Under, Known, isMarked, above, rises, next, MarkedAll, Tested}

@@ -31,7 +31,7 @@ use Rattle.keys.specs.declared.KeyWords.{KeyWords}
 use Rattle.keys.specs.KeyWords.{keyKind, Says, Held}
 use Rattle.reader.specs.Texts.{kindFor, isArrayTag, keyTold}
 use Rattle.reader.specs.Nodes.{nodeOf, wordAt, Placed}
-use Rattle.marks.specs.Marks.{Grows}
+use Rattle.key_filter.specs.Filter.{Grows}
 use Rattle.reader.specs.declared.seen.Seen.{Seen}
 use Rattle.reader.specs.KeysSeen.{keyWords, Known, next, Tested}
 use Rattle.reader.specs.Steps.{Fit, GoodKey, MeetsKey, Remembers, keyAt, refusalOf}

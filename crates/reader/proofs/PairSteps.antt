@@ -21,7 +21,7 @@ use Rattle.format.proofs.Results.{flat-length}
 use Rattle.format.proofs.Rows.{tableIn-length}
 use Rattle.reader.specs.declared.cursor.Cursor.{Cursor}
 use Rattle.reader.specs.declared.cursor.Step.{Step}
-use Rattle.marks.specs.Marks.{Grows}
+use Rattle.key_filter.specs.Filter.{Grows}
 use Rattle.reader.specs.declared.seen.Seen.{Seen}
 use Rattle.keys.specs.declared.KeyWords.{KeyWords}
 use Rattle.keys.specs.KeyWords.{Held}
@@ -29,7 +29,7 @@ use Rattle.reader.specs.Texts.{isArrayTag}
 use Rattle.reader.specs.Nodes.{wordAt}
 use Rattle.reader.specs.KeysSeen.{keyWords, Chain, none, pair, Walk, Known, next}
 use Rattle.reader.specs.Steps.{Points, Takes, TakesIn, Fit, Kept, WroteIn, GoodValue, GoodPairs, GoodKey, MeetsPairs, Earlier, Remembers, innerAt, valueAt, pairsAt, keyAt}
-use Rattle.marks.proofs.Marking.{grows-none, grows-on}
+use Rattle.key_filter.proofs.Marking.{grows-none, grows-on}
 use Rattle.reader.proofs.KeyLaws.{chain-le, known-grows}
 use Rattle.reader.proofs.Snoc.{snoc, onto, onto-none, onto-done, onto-refused, onto-snoc, nodes-snoc, ordinals-snoc, key-adds, write-adds, length-snoc, ordinals-le, flat-append, table-snoc, takes-snoc}
 use Rattle.reader.proofs.Stored.{run-kept, run-word, points-kept, points-skip}
@@ -76,7 +76,7 @@ pub record Run (s t₀ t m₀ m : List ℕ) (capacity container count : ℕ) (c�
   wrote : WroteIn t₀ t c₀ c pairs
   pub long : length t ≡ length t₀
   pub grown : Grows m₀ m
-  pub marks-long : length m ≡ length m₀
+  pub filter-long : length m ≡ length m₀
 
 pub run-start : (s t m : List ℕ) (capacity container count : ℕ) (c : Cursor) → Fit s t capacity c → Run s t t m m capacity container count c c count Seen.Nothing
 unfolding write pairsAt restAt
@@ -95,7 +95,7 @@ run-start s t m capacity container count c f =
       wrote = record { of = λ to p q. (refl, p) };
       long = refl;
       grown = grows-none m;
-      marks-long = refl;
+      filter-long = refl;
     }
 
 module _ {s t₀ t m₀ m : List ℕ} {capacity container count : ℕ} {c₀ c : Cursor} {more : ℕ} {seen : Seen} (r : Run s t₀ t m₀ m capacity container count c₀ c more seen) where
@@ -279,7 +279,7 @@ module _ {s t₀ t m₀ m : List ℕ} {capacity container count : ℕ} {c₀ c :
               wrote = record { of = writes };
               long = l₂ ∙ l₁ ∙ r .long;
               grown = grows-on (r .grown) (grows-on (a .grows) b);
-              marks-long = n₂ ∙ n₁ ∙ r .marks-long;
+              filter-long = n₂ ∙ n₁ ∙ r .filter-long;
             }
           where
             fits : Fit s t capacity c → Fit s t₂ capacity after

@@ -11,7 +11,7 @@ use Rattle.format.specs.Table.{width, word}
 use Rattle.keys.specs.declared.KeyWords.{KeyWords}
 use Rattle.keys.specs.KeyWords.{Held}
 use Rattle.reader.specs.Nodes.{wordAt}
-use Rattle.marks.specs.Marks.{Grows, AllMarked}
+use Rattle.key_filter.specs.Filter.{Grows, AllMarked}
 use Rattle.reader.specs.declared.seen.Seen.{Seen}
 
 -- the place of an integer's pattern in the order of the integers
@@ -42,7 +42,7 @@ abbrev pub Under : (top : ℕ) → List Key → Type 0
 Under top [] = Unit {0}
 Under top (k ∷ ks) = KeyUnder top k × Under top ks
 
-abbrev pub Known : Seen → (marks : List ℕ) → (first : ℕ) → List Key → Type 0
+abbrev pub Known : Seen → (filter : List ℕ) → (first : ℕ) → List Key → Type 0
 Known Seen.Nothing m first ks = ks ≡ []
 Known (Seen.Upto top) m first ks = Under top ks
 Known Seen.Marked m first ks = AllMarked m first ks

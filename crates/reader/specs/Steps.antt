@@ -18,7 +18,7 @@ use Rattle.reader.specs.declared.cursor.Cursor.{Cursor}
 use Rattle.reader.specs.declared.cursor.Step.{Step}
 use Rattle.reader.specs.declared.cursor.Gate.{Gate}
 use Rattle.keys.specs.KeyWords.{Held}
-use Rattle.marks.specs.Marks.{Grows}
+use Rattle.key_filter.specs.Filter.{Grows}
 use Rattle.reader.specs.declared.seen.Seen.{Seen}
 use Rattle.reader.specs.Texts.{kindFor, isArrayTag}
 use Rattle.reader.specs.Nodes.{wordAt}

@@ -34,7 +34,7 @@ fn key_allowed(tag: u8, container: u8) -> bool
 pub(crate) fn read_key(
     source: &[u8],
     table: &mut [u64],
-    marks: &mut [u64],
+    filter: &mut [u64],
     capacity: usize,
     container: u8,
     first: usize,
@@ -43,8 +43,8 @@ pub(crate) fn read_key(
 ) -> Step
     requires { ⌜ Fit (now source) (now table) capacity cursor ⌝ }
     requires { ⌜ Walk (now source) (now table) first (cursor .node) ⌝ }
-    ensures { λ r. ⌜ ((earlier : List Key) → Earlier (now (source .entry)) (now (table .entry)) (now (marks .entry)) first (cursor .node) seen earlier → MeetsKey (now (source .entry)) (now (table .entry)) (now (table .exit)) capacity cursor (keyAt (now (source .entry)) capacity container earlier cursor) r) ⌝ }
-    ensures { λ r. ⌜ Remembers (now (source .entry)) (now (table .entry)) (now (table .exit)) (now (marks .entry)) (now (marks .exit)) first (cursor .node) seen r ⌝ }
+    ensures { λ r. ⌜ ((earlier : List Key) → Earlier (now (source .entry)) (now (table .entry)) (now (filter .entry)) first (cursor .node) seen earlier → MeetsKey (now (source .entry)) (now (table .entry)) (now (table .exit)) capacity cursor (keyAt (now (source .entry)) capacity container earlier cursor) r) ⌝ }
+    ensures { λ r. ⌜ Remembers (now (source .entry)) (now (table .entry)) (now (table .exit)) (now (filter .entry)) (now (filter .exit)) first (cursor .node) seen r ⌝ }
 {
     let at = cursor.at;
     let node = cursor.node;
@@ -67,7 +67,7 @@ pub(crate) fn read_key(
         content: text.content,
         size: text.size,
     };
-    if key_seen(source, table, marks, first, node, key, seen) {
+    if key_seen(source, table, filter, first, node, key, seen) {
         return Step::Refused(9, at);
     }
     Step::Done(place(table, cursor, tag, text, false))

@@ -25,8 +25,8 @@ const SOURCE_LIMIT: usize = 65536;
 
 const DEPTH_LIMIT: usize = 64;
 
-// A plan of this length has marks for its keys.
-const MARKS_FROM: usize = 512;
+// A plan of this length has a filter of its keys.
+const FILTER_FROM: usize = 512;
 
 // What reading answers: the nodes written and the ordinals taken, or a refusal's number and position.
 pub enum Reading {
@@ -35,7 +35,7 @@ pub enum Reading {
 }
 
 // A whole plan; a refusal leaves the table as it falls.
-fn read_whole(source: &[u8], table: &mut [u64], marks: &mut [u64], capacity: usize) -> Step
+fn read_whole(source: &[u8], table: &mut [u64], filter: &mut [u64], capacity: usize) -> Step
     requires { ⌜ capacity * width ≤ length (now table) ⌝ }
     ensures { λ r. ⌜ Whole (now (source .entry)) (now (table .entry)) (now (table .exit)) capacity r ⌝ }
 {
@@ -48,7 +48,7 @@ fn read_whole(source: &[u8], table: &mut [u64], marks: &mut [u64], capacity: usi
         ordinal: 0,
         levels: DEPTH_LIMIT,
     };
-    let step = value::read_root(source, table, marks, capacity, start);
+    let step = value::read_root(source, table, filter, capacity, start);
     let Step::Done(end) = step else {
         return step;
     };
@@ -59,29 +59,29 @@ fn read_whole(source: &[u8], table: &mut [u64], marks: &mut [u64], capacity: usi
     step
 }
 
-// A short plan: its keys are few, so each is looked for among the pairs, and no marks are kept.
+// A short plan: its keys are few, so each is looked for among the pairs, and there is no filter.
 fn read_short(source: &[u8], table: &mut [u64], capacity: usize) -> Step
     requires { ⌜ capacity * width ≤ length (now table) ⌝ }
     ensures { λ r. ⌜ Whole (now (source .entry)) (now (table .entry)) (now (table .exit)) capacity r ⌝ }
 {
-    let mut marks = [0u64; 1];
-    read_whole(source, table, &mut marks[..0], capacity)
+    let mut filter = [0u64; 1];
+    read_whole(source, table, &mut filter[..0], capacity)
 }
 
 fn read_long(source: &[u8], table: &mut [u64], capacity: usize) -> Step
     requires { ⌜ capacity * width ≤ length (now table) ⌝ }
     ensures { λ r. ⌜ Whole (now (source .entry)) (now (table .entry)) (now (table .exit)) capacity r ⌝ }
 {
-    let mut marks = [0u64; 4096];
-    read_whole(source, table, &mut marks, capacity)
+    let mut filter = [0u64; 4096];
+    read_whole(source, table, &mut filter, capacity)
 }
 
-// A plan with as many marks as its length asks for.
+// A plan with as large a filter as its length asks for.
 fn read_by_length(source: &[u8], table: &mut [u64], capacity: usize) -> Step
     requires { ⌜ capacity * width ≤ length (now table) ⌝ }
     ensures { λ r. ⌜ Whole (now (source .entry)) (now (table .entry)) (now (table .exit)) capacity r ⌝ }
 {
-    if source.len() < MARKS_FROM {
+    if source.len() < FILTER_FROM {
         return read_short(source, table, capacity);
     }
     read_long(source, table, capacity)

@@ -102,22 +102,22 @@ pub(crate) fn next(seen: Seen, key: KeyWords) -> Seen
 fn mark_earlier(
     source: &[u8],
     table: &[u64],
-    marks: &mut [u64],
+    filter: &mut [u64],
     first: usize,
     node: usize,
     seen: Seen,
 )
     requires { ⌜ node * width ≤ length (now table) ⌝ }
     requires { ⌜ Walk (now source) (now table) first node ⌝ }
-    ensures { λ _. ⌜ MarkedAll (now (source .entry)) (now (table .entry)) (now (marks .entry)) (now (marks .exit)) first node seen ⌝ }
+    ensures { λ _. ⌜ MarkedAll (now (source .entry)) (now (table .entry)) (now (filter .entry)) (now (filter .exit)) first node seen ⌝ }
 {
     if is_marked(seen) {
         return;
     }
     let mut i = first;
     while i < node {
-        let hash = marks::hash(source, first, key_at(table, i));
-        marks::enter(marks, hash);
+        let hash = key_filter::hash(source, first, key_at(table, i));
+        key_filter::enter(filter, hash);
         i = table[i * WIDTH + PAIR_END] as usize;
     }
 }
@@ -126,7 +126,7 @@ fn mark_earlier(
 pub(crate) fn key_seen(
     source: &[u8],
     table: &[u64],
-    marks: &mut [u64],
+    filter: &mut [u64],
     first: usize,
     node: usize,
     key: KeyWords,
@@ -134,17 +134,17 @@ pub(crate) fn key_seen(
 ) -> bool
     requires { ⌜ node * width ≤ length (now table) ⌝ }
     requires { ⌜ Walk (now source) (now table) first node ⌝ }
-    ensures { λ r. ⌜ Tested (now (source .entry)) (now (table .entry)) (now (marks .entry)) (now (marks .exit)) first node key seen r ⌝ }
+    ensures { λ r. ⌜ Tested (now (source .entry)) (now (table .entry)) (now (filter .entry)) (now (filter .exit)) first node key seen r ⌝ }
 {
     if rises(seen, key) {
         return false;
     }
-    if marks.len() == 0 {
+    if filter.len() == 0 {
         return walk(source, table, first, node, key);
     }
-    mark_earlier(source, table, marks, first, node, seen);
-    let hash = marks::hash(source, first, key);
-    if !marks::enter(marks, hash) {
+    mark_earlier(source, table, filter, first, node, seen);
+    let hash = key_filter::hash(source, first, key);
+    if !key_filter::enter(filter, hash) {
         return false;
     }
     walk(source, table, first, node, key)

@@ -19,7 +19,7 @@ use format::kind::Kind;
 use scanner::Scan;
 ghost use Prim.Native.Nat.{_-_, _<_};
 ghost use lib.ListN.{length};
-ghost use Rattle.marks.specs.Marks.{Grows};
+ghost use Rattle.key_filter.specs.Filter.{Grows};
 ghost use Rattle.reader.specs.Texts.{containerTag};
 ghost use Rattle.reader.specs.Steps.{Fit, valueAt, bodyAt, innerAt, pairsAt, Meets, MeetsPairs};
 
@@ -27,13 +27,13 @@ ghost use Rattle.reader.specs.Steps.{Fit, valueAt, bodyAt, innerAt, pair
 fn read_value(
     source: &[u8],
     table: &mut [u64],
-    marks: &mut [u64],
+    filter: &mut [u64],
     capacity: usize,
     cursor: Cursor,
 ) -> Step
     requires { ⌜ Fit (now source) (now table) capacity cursor ⌝ }
     ensures { λ r. ⌜ Meets (now (source .entry)) (now (table .entry)) (now (table .exit)) capacity cursor (valueAt (now (source .entry)) capacity cursor) r ⌝ }
-    ensures { λ r. ⌜ Grows (now (marks .entry)) (now (marks .exit)) ⌝ }
+    ensures { λ r. ⌜ Grows (now (filter .entry)) (now (filter .exit)) ⌝ }
 {
     let at = cursor.at;
     let gate = check_tag(source, capacity, cursor);
@@ -43,7 +43,7 @@ fn read_value(
             Kind::ARRAY | Kind::OBJECT => read_container(
                 source,
                 table,
-                marks,
+                filter,
                 capacity,
                 cursor,
                 tag,
@@ -60,13 +60,13 @@ fn read_value(
 pub(crate) fn read_root(
     source: &[u8],
     table: &mut [u64],
-    marks: &mut [u64],
+    filter: &mut [u64],
     capacity: usize,
     cursor: Cursor,
 ) -> Step
     requires { ⌜ Fit (now source) (now table) capacity cursor ⌝ }
     ensures { λ r. ⌜ Meets (now (source .entry)) (now (table .entry)) (now (table .exit)) capacity cursor (valueAt (now (source .entry)) capacity cursor) r ⌝ }
-    ensures { λ r. ⌜ Grows (now (marks .entry)) (now (marks .exit)) ⌝ }
+    ensures { λ r. ⌜ Grows (now (filter .entry)) (now (filter .exit)) ⌝ }
 {
     let at = cursor.at;
     let gate = check_tag(source, capacity, cursor);
@@ -76,7 +76,7 @@ pub(crate) fn read_root(
             Kind::ARRAY | Kind::OBJECT => read_container(
                 source,
                 table,
-                marks,
+                filter,
                 capacity,
                 cursor,
                 tag,
@@ -93,7 +93,7 @@ pub(crate) fn read_root(
 fn read_container(
     source: &[u8],
     table: &mut [u64],
-    marks: &mut [u64],
+    filter: &mut [u64],
     capacity: usize,
     cursor: Cursor,
     tag: u8,
@@ -101,7 +101,7 @@ fn read_container(
     requires { ⌜ Fit (now source) (now table) capacity cursor ⌝ }
     requires { ⌜ (cursor .at < length (now source)) × (cursor .node < capacity) × (0 < cursor .levels) × containerTag tag ⌝ }
     ensures { λ r. ⌜ Meets (now (source .entry)) (now (table .entry)) (now (table .exit)) capacity cursor (bodyAt (now (source .entry)) capacity (innerAt (now (source .entry)) capacity (cursor .levels - 1)) tag cursor) r ⌝ }
-    ensures { λ r. ⌜ Grows (now (marks .entry)) (now (marks .exit)) ⌝ }
+    ensures { λ r. ⌜ Grows (now (filter .entry)) (now (filter .exit)) ⌝ }
 {
     let at = cursor.at;
     let scan = head(source, at, tag);
@@ -109,7 +109,7 @@ fn read_container(
         return refused(scan, at);
     };
     let inside = enter(table, cursor, tag, text);
-    let step = read_pairs(source, table, marks, capacity, tag, inside, text.link);
+    let step = read_pairs(source, table, filter, capacity, tag, inside, text.link);
     let Step::Done(last) = step else {
         return step;
     };
@@ -130,7 +130,7 @@ fn read_container(
 fn read_pairs(
     source: &[u8],
     table: &mut [u64],
-    marks: &mut [u64],
+    filter: &mut [u64],
     capacity: usize,
     container: u8,
     start: Cursor,
@@ -138,7 +138,7 @@ fn read_pairs(
 ) -> Step
     requires { ⌜ Fit (now source) (now table) capacity start ⌝ }
     ensures { λ r. ⌜ MeetsPairs (now (source .entry)) (now (table .entry)) (now (table .exit)) capacity start (pairsAt (now (source .entry)) capacity container count start) r ⌝ }
-    ensures { λ r. ⌜ Grows (now (marks .entry)) (now (marks .exit)) ⌝ }
+    ensures { λ r. ⌜ Grows (now (filter .entry)) (now (filter .exit)) ⌝ }
 {
     let first = start.node;
     let mut cursor = start;
@@ -149,7 +149,7 @@ fn read_pairs(
         let key = read_key(
             source,
             table,
-            marks,
+            filter,
             capacity,
             container,
             first,
@@ -160,7 +160,7 @@ fn read_pairs(
             return key;
         };
         seen = next(seen, key_at(table, node));
-        let value = read_value(source, table, marks, capacity, behind);
+        let value = read_value(source, table, filter, capacity, behind);
         match value {
             Step::Done(next) => {
                 cursor = next;

@@ -6,7 +6,7 @@ use lib.ListN.{getD}
 use borrow.Author.Tests.{not-true, not-false}
 use Rattle.scanner.proofs.Numbers.{found-of}
 use Rattle.reader.specs.Texts.{isArrayTag}
-use Rattle.marks.proofs.Marking.{grows-none}
+use Rattle.key_filter.proofs.Marking.{grows-none}
 use Rattle.reader.proofs.Tagged as tagged
 use Rattle.reader.proofs.Leaves.{refused-is}
 use Rattle.reader.proofs.ScalarTexts.{key-behind}

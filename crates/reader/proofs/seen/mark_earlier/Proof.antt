@@ -8,10 +8,10 @@ use Rattle.reader.proofs.seen.mark_earlier.Statement.{statement}
 use Rattle.reader.proofs.seen.mark_earlier.Tie as tie
 
 abbrev Inv-loop : tie.InvT-loop
-Inv-loop source table marks₀ first node i₀ marks i = keys.Marking source table marks₀ marks first node i
+Inv-loop source table filter₀ first node i₀ filter i = keys.Marking source table filter₀ filter first node i
 
 abbrev μ-loop : tie.MeasureT-loop
-μ-loop source table marks₀ first node i₀ marks i = node - i
+μ-loop source table filter₀ first node i₀ filter i = node - i
 
 is-marked-requires : tie.Need-is-marked-requires Inv-loop μ-loop
 is-marked-requires c κs = search needs

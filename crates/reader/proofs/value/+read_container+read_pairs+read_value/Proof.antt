@@ -11,7 +11,7 @@ use Rattle.bytes_at.proofs.BytesAt.{byte-there}
 use Rattle.scanner.proofs.Numbers.{found-of}
 use Rattle.reader.specs.declared.cursor.Cursor.{Cursor}
 use Rattle.reader.specs.Steps.{Meets, MeetsPairs, MeetsKey, GateAt}
-use Rattle.marks.proofs.Marking.{grows-none, grows-on}
+use Rattle.key_filter.proofs.Marking.{grows-none, grows-on}
 use Rattle.reader.proofs.Tagged as tagged
 use Rattle.reader.proofs.Leaves as leaves
 use Rattle.reader.proofs.ContainerSteps as containers
@@ -83,10 +83,10 @@ read-value-below t =
     and 3 read-value-kinds.ps (falls 3 read-value-kinds.ps _<_ μ-read-value t) read-value.Pre
 
 abbrev read-pairs-Inv-loop : read-pairs-lts.InvT-loop
-read-pairs-Inv-loop source table₀ marks₀ capacity container count first cursor₀ more₀ seen₀ table marks cursor more seen = pairs.Run source table₀ table marks₀ marks capacity container count cursor₀ cursor more seen
+read-pairs-Inv-loop source table₀ filter₀ capacity container count first cursor₀ more₀ seen₀ table filter cursor more seen = pairs.Run source table₀ table filter₀ filter capacity container count cursor₀ cursor more seen
 
 abbrev read-pairs-μ-loop : read-pairs-lts.MeasureT-loop
-read-pairs-μ-loop source table₀ marks₀ capacity container count first cursor₀ more₀ seen₀ table marks cursor more seen = more
+read-pairs-μ-loop source table₀ filter₀ capacity container count first cursor₀ more₀ seen₀ table filter cursor more seen = more
 
 pub +read-container+read-pairs+read-value-spec : {M : Type 1} → statement M
 +read-container+read-pairs+read-value-spec =
@@ -146,7 +146,7 @@ pub +read-container+read-pairs+read-value-spec : {M : Type 1} → statement M
     (λ c. search needs)
     (λ c. search needs)
     (λ c. omega (arith, (c .before .before .before .before .before .before .before .before .before .before .loop .inv) .long, c .before .before .before .before .before .before .read-key .kept .1 .0))
-    (λ c. omega (arith, (c .before .before .before .before .before .before .before .before .before .before .loop .inv) .marks-long, c .before .before .before .before .before .before .read-key .kept .1 .1 .0))
+    (λ c. omega (arith, (c .before .before .before .before .before .before .before .before .before .before .loop .inv) .filter-long, c .before .before .before .before .before .before .read-key .kept .1 .1 .0))
     (λ c. (pairs.pairs-bad _ _ _ _ _ _ _ _ _ (c .enum-told .given .1) (pairs.run-key-bad (c .before .before .before .before .before .before .before .before .before .before .loop .inv) (c .before .before .before .before .before .before .before .before .before .loop-test .taken) _ _ (subst (MeetsKey _ _ _ _ _ _) (c .enum-told .given .1) (c .before .before .before .before .before .before .read-key .ensures .0 ((c .before .before .before .before .before .before .before .before .before .before .loop .inv) .earlier) ((c .before .before .before .before .before .before .before .before .before .before .loop .inv) .keys)))), grows-on ((c .before .before .before .before .before .before .before .before .before .before .loop .inv) .grown) (c .before .before .before .before .before .before .read-key .ensures .1 .grows)))
     (λ c κs. let k = (subst (MeetsKey _ _ _ _ _ _) (c .before .before .key .given .1) (c .before .before .before .before .before .before .before .before .read-key .ensures .0 ((c .before .before .before .before .before .before .before .before .before .before .before .before .loop .inv) .earlier) ((c .before .before .before .before .before .before .before .before .before .before .before .before .loop .inv) .keys))) in let f = (c .before .before .before .before .before .before .before .before .before .before .before .before .loop .inv) .fit in omega (arith, k .fits, k .node, c .before .before .before .before .before .before .before .before .read-key .kept .1 .0))
     (λ c κs. search needs)
@@ -154,7 +154,7 @@ pub +read-container+read-pairs+read-value-spec : {M : Type 1} → statement M
     (λ c. search needs)
     (λ c. search needs)
     (λ c. omega (arith, (c .before .before .before .before .before .before .before .before .before .before .before .before .before .before .before .before .before .before .before .before .before .before .before .before .loop .inv) .long, c .before .before .before .before .before .before .before .before .before .before .before .before .before .before .before .before .before .before .before .before .read-key .kept .1 .0, c .before .before .before .before .before .before .before .read-value .kept .1 .0))
-    (λ c. omega (arith, (c .before .before .before .before .before .before .before .before .before .before .before .before .before .before .before .before .before .before .before .before .before .before .before .before .loop .inv) .marks-long, c .before .before .before .before .before .before .before .before .before .before .before .before .before .before .before .before .before .before .before .before .read-key .kept .1 .1 .0, c .before .before .before .before .before .before .before .read-value .kept .1 .1 .0))
+    (λ c. omega (arith, (c .before .before .before .before .before .before .before .before .before .before .before .before .before .before .before .before .before .before .before .before .before .before .before .before .loop .inv) .filter-long, c .before .before .before .before .before .before .before .before .before .before .before .before .before .before .before .before .before .before .before .before .read-key .kept .1 .1 .0, c .before .before .before .before .before .before .before .read-value .kept .1 .1 .0))
     (λ c. (pairs.run-value-bad (c .before .before .before .before .before .before .before .before .before .before .before .before .before .before .before .before .before .before .before .before .before .before .before .before .loop .inv) (c .before .before .before .before .before .before .before .before .before .before .before .before .before .before .before .before .before .before .before .before .before .before .before .loop-test .taken) _ _ (subst (MeetsKey _ _ _ _ _ _) (c .before .before .before .before .before .before .before .before .before .before .before .before .before .before .key .given .1) (c .before .before .before .before .before .before .before .before .before .before .before .before .before .before .before .before .before .before .before .before .read-key .ensures .0 ((c .before .before .before .before .before .before .before .before .before .before .before .before .before .before .before .before .before .before .before .before .before .before .before .before .loop .inv) .earlier) ((c .before .before .before .before .before .before .before .before .before .before .before .before .before .before .before .before .before .before .before .before .before .before .before .before .loop .inv) .keys))) _ _ (subst (Meets _ _ _ _ _ _) (c .before .value2 .given .1) (c .before .before .before .before .before .before .before .read-value .ensures .0)), grows-on ((c .before .before .before .before .before .before .before .before .before .before .before .before .before .before .before .before .before .before .before .before .before .before .before .before .loop .inv) .grown) (grows-on (c .before .before .before .before .before .before .before .before .before .before .before .before .before .before .before .before .before .before .before .before .read-key .ensures .1 .grows) (c .before .before .before .before .before .before .before .read-value .ensures .1))))
     (λ c. omega (arith, c .before .before .before .before .before .before .before .before .before .before .before .before .before .before .before .before .before .before .before .before .before .before .before .loop-test .taken))
     (λ c. omega (arith, c .before .before .before .before .before .before .before .before .before .before .before .before .before .before .before .before .before .before .before .before .before .before .before .loop-test .taken))

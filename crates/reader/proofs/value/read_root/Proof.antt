@@ -2,7 +2,7 @@
 use borrow.Author.Needs.{needs}
 use mathlib.Core.Path.{subst}
 use Rattle.reader.specs.Steps.{GateAt}
-use Rattle.marks.proofs.Marking.{grows-none}
+use Rattle.key_filter.proofs.Marking.{grows-none}
 use Rattle.reader.proofs.Tagged as tagged
 use Rattle.reader.proofs.Leaves as leaves
 use Rattle.reader.proofs.value.read_root.Statement.{statement}

@@ -1,11 +1,11 @@
--- `marks::mixed` meets its contract. Assumes nothing.
+-- `key_filter::mixed` meets its contract. Assumes nothing.
 use native.Mathlib.Omega.{arith}
 use mathlib.Core.Path.{refl}
 use borrow.Author.Needs.{needs}
 use lib.Bits.{xor-lt}
-use Rattle.marks.specs.Hash.{halves, mixed}
-use Rattle.marks.proofs.mixed.Statement.{statement}
-use Rattle.marks.proofs.mixed.Tie as tie
+use Rattle.key_filter.specs.Hash.{halves, mixed}
+use Rattle.key_filter.proofs.mixed.Statement.{statement}
+use Rattle.key_filter.proofs.mixed.Tie as tie
 
 mul-result : tie.Need-mul-result
 mul-result c = search needs

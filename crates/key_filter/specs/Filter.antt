@@ -1,37 +1,38 @@
--- The marks of hashes: four bits of one word each.
+-- A Bloom filter of hashes: four bits of one word each.
 use mathlib.Core.Path.{_≡_}
 use mathlib.Core.List.{List, [], _∷_}
 use mathlib.Core.Bool.{Bool, true, false}
-use Prim.Native.Nat.{ℕ, _*_, _/_, _%_, _^_}
-use lib.Dec.{eqb, ltb}
+use Prim.Native.Nat.{ℕ, _-_, _*_, _/_, _%_, _^_}
+use lib.Dec.{eqb}
 use lib.Bits.{bitAnd, bitOr}
 use lib.ListN.{length, getD, set}
 use Rattle.format.specs.Syntax.{Key}
-use Rattle.marks.specs.Hash.{hashKey}
+use Rattle.key_filter.specs.Hash.{hashKey}
 
-unfoldable pub slotOf : ℕ → ℕ
-slotOf h = h / 2 ^ 52
+-- among so many words
+unfoldable pub slotOf : (count : ℕ) → ℕ → ℕ
+slotOf n h = bitAnd (h / 2 ^ 44) (n - 1)
 
 unfoldable pub bitOf : ℕ → ℕ
 bitOf n = 1 * 2 ^ (n % 64) % 2 ^ 64
 
 unfoldable pub maskOf : ℕ → ℕ
-maskOf h = bitOr (bitOr (bitOr (bitOf (h / 2 ^ 34)) (bitOf (h / 2 ^ 28))) (bitOf (h / 2 ^ 22))) (bitOf (h / 2 ^ 16))
+maskOf h = bitOr (bitOr (bitOr (bitOf (h / 2 ^ 38)) (bitOf (h / 2 ^ 32))) (bitOf (h / 2 ^ 26))) (bitOf (h / 2 ^ 20))
 
 -- all its bits are set
 unfoldable pub covers : (word mask : ℕ) → Bool
 covers w m = eqb (bitAnd w m) m
 
--- a hash whose word is not there counts as marked
+-- where there is no word each hash counts as marked
 unfoldable pub marked : List ℕ → ℕ → Bool
-marked m h = elim (ltb (slotOf h) (length m)) [ true ↦ covers (getD m (slotOf h) 0) (maskOf h) | false ↦ true ]
+marked m h = elim (eqb (length m) 0) [ true ↦ true | false ↦ covers (getD m (slotOf (length m) h) 0) (maskOf h) ]
 
 unfoldable pub mark : List ℕ → ℕ → List ℕ
-mark m h = set m (slotOf h) (bitOr (getD m (slotOf h) 0) (maskOf h))
+mark m h = set m (slotOf (length m) h) (bitOr (getD m (slotOf (length m) h) 0) (maskOf h))
 
 pub record Entered (m m′ : List ℕ) (h : ℕ) (r : Bool) : Type 0 where
   pub answer : r ≡ marked m h
-  pub marks : m′ ≡ mark m h
+  pub filter : m′ ≡ mark m h
 
 -- no mark is lost
 pub record Grows (m m′ : List ℕ) : Type 0 where

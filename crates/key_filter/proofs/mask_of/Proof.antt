@@ -1,9 +1,9 @@
--- `marks::mask_of` meets its contract. Assumes nothing.
+-- `key_filter::mask_of` meets its contract. Assumes nothing.
 use mathlib.Core.Path.{refl}
 use borrow.Author.Needs.{needs}
-use Rattle.marks.specs.Marks.{bitOf, maskOf}
-use Rattle.marks.proofs.mask_of.Statement.{statement}
-use Rattle.marks.proofs.mask_of.Tie as tie
+use Rattle.key_filter.specs.Filter.{bitOf, maskOf}
+use Rattle.key_filter.proofs.mask_of.Statement.{statement}
+use Rattle.key_filter.proofs.mask_of.Tie as tie
 
 shl-result : tie.Need-shl-result
 shl-result c = search needs

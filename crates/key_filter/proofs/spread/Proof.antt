@@ -1,8 +1,8 @@
--- `marks::spread` meets its contract. Assumes nothing.
+-- `key_filter::spread` meets its contract. Assumes nothing.
 use borrow.Author.Needs.{needs}
-use Rattle.marks.specs.Hash.{spread}
-use Rattle.marks.proofs.spread.Statement.{statement}
-use Rattle.marks.proofs.spread.Tie as tie
+use Rattle.key_filter.specs.Hash.{spread}
+use Rattle.key_filter.proofs.spread.Statement.{statement}
+use Rattle.key_filter.proofs.spread.Tie as tie
 
 mixed-requires : tie.Need-mixed-requires
 mixed-requires c κs = search needs

@@ -1,0 +1,80 @@
+-- `key_filter::mixed_text` meets its contract. Assumes nothing.
+use Prim.Native.Nat.{_-_, _≤_}
+use native.Mathlib.Omega.{arith}
+use mathlib.Core.Path.{_≡_, refl}
+use borrow.Author.Needs.{needs}
+use lib.ListN.{length, drop}
+use Rattle.key_filter.specs.Hash.{mixedText}
+use Rattle.key_filter.proofs.Hashing as hashing
+use Rattle.key_filter.proofs.mixed_text.Statement.{statement}
+use Rattle.key_filter.proofs.mixed_text.Tie as tie
+
+abbrev Inv-loop : tie.InvT-loop
+Inv-loop text start hash₀ at₀ hash at = (at ≤ length text) × (mixedText hash (drop at text) ≡ mixedText start text)
+
+abbrev μ-loop : tie.MeasureT-loop
+μ-loop text start hash₀ at₀ hash at = length text - at
+
+loop-holds : tie.Need-loop-holds Inv-loop μ-loop
+loop-holds c = (omega arith, refl)
+
+sub-loop : tie.Need-sub-loop Inv-loop μ-loop
+sub-loop c = omega arith
+
+add-halves-at : tie.Need-add-halves-at Inv-loop μ-loop
+add-halves-at c = omega arith
+
+halves-at-requires : tie.Need-halves-at-requires Inv-loop μ-loop
+halves-at-requires c κs = omega arith
+
+mixed-requires : tie.Need-mixed-requires Inv-loop μ-loop
+mixed-requires c κs = search needs
+
+add-at : tie.Need-add-at Inv-loop μ-loop
+add-at c = omega arith
+
+loop-less : tie.Need-loop-less Inv-loop μ-loop
+loop-less c = omega arith
+
+loop-again : tie.Need-loop-again Inv-loop μ-loop
+loop-again c =
+    let halves = c .before in
+    let test = halves .before in
+    let loop = test .before .loop in
+    (omega arith, hashing.words-more (test .before .before .before .args .text .now) _ _ (loop .at) (loop .inv .1) _ _ (test .loop-test .taken) (halves .halves-at .ensures) (c .mixed .ensures))
+
+returns : tie.Need-returns Inv-loop μ-loop
+returns c =
+    let loop = c .before .before .loop in
+    hashing.words-end (c .before .before .before .before .args .text .now) _ _ (loop .at) (loop .inv .1) (c .if1 .taken)
+
+rest-at-requires : tie.Need-rest-at-requires Inv-loop μ-loop
+rest-at-requires c κs = omega arith
+
+mixed-requires-2 : tie.Need-mixed-requires-2 Inv-loop μ-loop
+mixed-requires-2 c κs = search needs
+
+returns-2 : tie.Need-returns-2 Inv-loop μ-loop
+returns-2 c =
+    let test = c .before .before .before in
+    let loop = test .before .loop in
+    hashing.words-last (test .before .before .before .args .text .now) _ _ (loop .at) (loop .inv .1) _ _ (test .loop-test .left) (omega (arith, loop .inv .0, c .before .before .if1 .left)) (c .before .rest-at .ensures) (c .mixed2 .ensures)
+
+pub mixed-text-spec : {M : Type 1} → statement M
+mixed-text-spec =
+    tie.close
+    (tie.spec
+    Inv-loop
+    μ-loop
+    loop-holds
+    sub-loop
+    add-halves-at
+    halves-at-requires
+    mixed-requires
+    add-at
+    loop-less
+    loop-again
+    returns
+    rest-at-requires
+    mixed-requires-2
+    returns-2)
