@@ -7,18 +7,19 @@ use mathlib.Core.Path.{_≡_, refl, sym, ap, _∙_, subst}
 use mathlib.Core.Bool.{Bool, true}
 use mathlib.Core.List.{List, [], _∷_, _++_}
 use lib.Dec.{eqb, lit<}
-use lib.ListN.{length, getD, drop, length-append, length-drop}
-use lib.Seq.{drop-cons}
+use lib.ListN.{length, getD, take, drop, length-append, length-drop, take-append-drop}
+use lib.Seq.{drop-cons, drop-drop}
 use Rattle.decimal.specs.Digits.{digitsOf, value, decimal, spelled}
 use Rattle.decimal.specs.Promise.{RunAt}
 use Rattle.decimal.specs.declared.Run.{Run}
-use Rattle.decimal.proofs.Decide.{Order, below, above, order}
+use Rattle.decimal.proofs.Decide.{Order, below, above, order, T-of}
 use Rattle.decimal.proofs.Numerals.{decimal-large, decimal-some, digits-are, digits-split, spelling}
 use Rattle.format.specs.Bytes.{byte}
-use Rattle.format.specs.Syntax.{null, int, unsigned, Literal}
+use Rattle.format.specs.Syntax.{null, int, float, unsigned, Literal}
 use Rattle.bytes_at.specs.ByteAt.{byteAt}
 use Rattle.bytes_at.proofs.BytesAt.{byte-there, drop-byte}
 use Rattle.bytes_at.proofs.Runs.{run-rest}
+use Rattle.scanner.specs.Parts.{PlainEnd}
 use Rattle.tokens.specs.Tokens.{Token, scalar, readToken, writeToken, TokenFits}
 use Rattle.tokens.proofs.TokenLaws.{token-front, token-longer, token-printed}
 use Rattle.tokens.proofs.Stretches.{between-more}
@@ -116,3 +117,27 @@ module _ (s : List ℕ) (at : ℕ) (t : TagAt s at (byte "i")) (colon : eqb (byt
         same : (c : Change) → changedToken c (scalar (int i)) ≡ scalar (int i)
         same Change.Canonical = refl
         same (Change.Raise k) = refl
+
+pub plain-float : (s : List ℕ) (at : ℕ) → TagAt s at (byte "d") → eqb (byteAt s (at + 1)) (byte ":") ≡ true → {end : ℕ} → PlainEnd s (at + 2) end → Passes s at (end + 1)
+plain-float s at t colon {end} p = passes-token s at (scalar (float text)) (end + 1) written (omega (arith, p .inside)) (T-of (p .float)) same
+  where
+    text : List ℕ
+    text = take (end - (at + 2)) (drop (at + 2) s)
+
+    there : at + 2 + (end - (at + 2)) ≡ end
+    there = omega (arith, p .semicolon .on)
+
+    behind : drop (end - (at + 2)) (drop (at + 2) s) ≡ 59 ∷ drop (end + 1) s
+    behind =
+        drop-drop (end - (at + 2)) (at + 2) s ∙ ap (λ (k : ℕ). drop k s) there
+        ∙ drop-cons s end 0 (p .inside) ∙ ap {B = List ℕ} (λ b. b ∷ drop (suc end) s) (p .semicolon .stop (p .inside))
+        ∙ ap (λ (k : ℕ). 59 ∷ drop k s) (sym (add-one end))
+
+    written : drop at s ≡ 100 ∷ 58 ∷ text ++ (59 ∷ drop (end + 1) s)
+    written =
+        tagged s at 100 58 t (lit< tt) colon
+        ∙ ap {B = List ℕ} (λ l. 100 ∷ 58 ∷ l) (sym (take-append-drop (end - (at + 2)) (drop (at + 2) s)) ∙ ap (λ (l : List ℕ). text ++ l) behind)
+
+    same : (c : Change) → changedToken c (scalar (float text)) ≡ scalar (float text)
+    same Change.Canonical = refl
+    same (Change.Raise k) = refl

@@ -5,10 +5,9 @@ use mathlib.Core.Path.{_≡_, refl, sym, ap, _∙_, subst}
 use mathlib.Core.Logic.{_⊎_, inl, inr, ⊎-elim}
 use mathlib.Core.Bool.{Bool, true, false}
 use mathlib.Core.List.{List, [], _∷_, _++_}
-use lib.Dec.{T, ltb}
+use lib.Dec.{T}
 use lib.ListN.{length, getD, drop, length-append, length-drop}
 use lib.Seq.{slice, getD-drop}
-use borrow.Author.Tests.{ltb-true, ltb-false}
 use Rattle.decimal.specs.Digits.{isDigit, spelled}
 use Rattle.decimal.proofs.Decide.{and-left}
 use Rattle.decimal.proofs.Numerals.{areDigits, digit-high, decimal-small, decimal-some, spelled-digits, spelled-some}
@@ -167,11 +166,11 @@ module _ {c : Change} (s : List ℕ) (at : ℕ) (x : Text) where
       same h = as-canonical s at x e ∙ respelled s at x (f .what) st ∙ ap (λ (t : Token). writeToken t []) (same-token s at x n (f .what) st h) ∙ sym (whole s at x (f .what) st)
 
   module _ {k : ℕ} (e : c ≡ Change.Raise k) where
-    pub reference-stays : ReferenceTag (getD s at 0) → Stays c s at x (ltb (x .content) k)
-    reference-stays o = record {
-      kept = λ i. as-raised s at x e ∙ raised-low k s at x o (ltb-true (x .content) k i);
-      changes = λ i. record { raises = λ m j. (o, omega (arith, ltb-false (x .content) k i, one (sym e ∙ j))) };
-    }
+    pub reference-stays : ReferenceTag (getD s at 0) → x .content < k → Stays c s at x true
+    reference-stays o h = does-stay (as-raised s at x e ∙ raised-low k s at x o h)
+
+    pub reference-changes : ReferenceTag (getD s at 0) → k ≤ x .content → Stays c s at x false
+    reference-changes o h = record { kept = λ i. absurd (differ (sym i)); changes = λ i. record { raises = λ m j. (o, omega (arith, h, one (sym e ∙ j))) } }
       where
         one : {m : ℕ} → Change.Raise k ≡ Change.Raise m → k ≡ m
         one j = cc

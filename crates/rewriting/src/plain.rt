@@ -45,6 +45,32 @@ fn behind_int(source: &[u8], at: usize) -> usize
     end + 1
 }
 
+// The index behind a float of digits with at most one point; or the tag's, if something else stands there.
+fn behind_float(source: &[u8], at: usize) -> usize
+    requires { ⌜ TagAt (now source) at (byte "d") ⌝ }
+    ensures { λ r. ⌜ (at < r → Passes (now (source .entry)) at r) ⌝ }
+{
+    if !byte_is(source, at + 1, b':') {
+        return at;
+    }
+    let from = at + 2;
+    let point = decimal::run_at(source, from, 0).next;
+    if point == from {
+        return at;
+    }
+    if byte_is(source, point, b';') {
+        return point + 1;
+    }
+    if !byte_is(source, point, b'.') {
+        return at;
+    }
+    let end = decimal::run_at(source, point + 1, 0).next;
+    if byte_is(source, end, b';') {
+        return end + 1;
+    }
+    at
+}
+
 // The index behind a plain token; or the index itself, if something else stands there.
 pub(crate) fn behind_plain(source: &[u8], at: usize) -> usize
     ensures { λ r. ⌜ (at < r → Passes (now (source .entry)) at r) ⌝ }
@@ -56,6 +82,7 @@ pub(crate) fn behind_plain(source: &[u8], at: usize) -> usize
     match tag {
         Kind::NULL => behind_null(source, at),
         Kind::INT => behind_int(source, at),
+        Kind::FLOAT => behind_float(source, at),
         _ => at,
     }
 }

@@ -25,7 +25,13 @@ fn stays(source: &[u8], at: usize, text: Text, change: Change) -> bool
             _ => is_shortest(source[at + 2], source[at + 3]),
         },
         Change::Raise(from) => match tag {
-            Kind::OBJECT_REFERENCE | Kind::VARIABLE_REFERENCE => text.content < from,
+            Kind::OBJECT_REFERENCE | Kind::VARIABLE_REFERENCE => {
+                let named = text.content;
+                if from <= named {
+                    return false;
+                }
+                true
+            }
             _ => true,
         },
     }

@@ -16,6 +16,9 @@ behind-null-requires c κs = record { inside = omega (arith, c .before .before .
 behind-int-requires : tie.Need-behind-int-requires
 behind-int-requires c κs = record { inside = omega (arith, c .before .before .if1 .left); is = c .match .keys2 }
 
+behind-float-requires : tie.Need-behind-float-requires
+behind-float-requires c κs = record { inside = omega (arith, c .before .before .if1 .left); is = c .match .keys3 }
+
 returns-2 : tie.Need-returns-2
 returns-2 c = c .behind-null .ensures
 
@@ -23,7 +26,10 @@ returns-3 : tie.Need-returns-3
 returns-3 c = c .behind-int .ensures
 
 returns-4 : tie.Need-returns-4
-returns-4 c = λ h. absurd (omega (arith, h))
+returns-4 c = c .behind-float .ensures
+
+returns-5 : tie.Need-returns-5
+returns-5 c = λ h. absurd (omega (arith, h))
 
 pub behind-plain-spec : {M : Type 1} → statement M
 behind-plain-spec =
@@ -33,6 +39,8 @@ behind-plain-spec =
     shared-slice-read-tag
     behind-null-requires
     behind-int-requires
+    behind-float-requires
     returns-2
     returns-3
-    returns-4)
+    returns-4
+    returns-5)
