@@ -2,6 +2,7 @@ pub mod Outputs
 pub mod Spelled
 pub mod Respelled
 pub mod Staying
+pub mod PlainTokens
 pub mod Rewritten
 pub mod InsertedTexts
 pub mod Measures

@@ -60,14 +60,22 @@ module _ (s : List ℕ) (at : ℕ) where
   numbered-is b w n m tail r e from to f g =
       ap₂ _++_ (front b (writeNumber w n (tail ++ r)) e) (ap (λ (l : List ℕ). decimal m ++ l) (slice-of s at (b ∷ 58 ∷ spelled (w .zeros) n) tail r e from to (omega arith) g))
 
+  -- a token that stands there
+  module _ (t : Token) (next : ℕ) (e : drop at s ≡ writeToken t (drop next s)) (h : next ≤ length s) where
+    token-ends : next ≡ at + length (writeToken t [])
+    token-ends = omega (arith, token-some t [], h, length-drop at s, length-drop next s, ap length (e ∙ token-front t [] (drop next s)), length-append (writeToken t []) (drop next s))
+
+    pub token-bytes : slice at next s ≡ writeToken t []
+    token-bytes = slice-of s at [] (writeToken t []) (drop next s) (e ∙ token-front t [] (drop next s)) at next (sym (add-zero at)) token-ends
+
   module _ (x : Text) (t : Token) (st : Stands s at t x) where
     -- where the token ends
     ends : x .next ≡ at + length (writeToken t [])
-    ends = omega (arith, token-some t [], st .inside, length-drop at s, length-drop (x .next) s, ap length (st .written ∙ token-front t [] (drop (x .next) s)), length-append (writeToken t []) (drop (x .next) s))
+    ends = token-ends t (x .next) (st .written) (st .inside)
 
     -- all of it
     pub whole : slice at (x .next) s ≡ writeToken t []
-    whole = slice-of s at [] (writeToken t []) (drop (x .next) s) (st .written ∙ token-front t [] (drop (x .next) s)) at (x .next) (sym (add-zero at)) ends
+    whole = token-bytes t (x .next) (st .written) (st .inside)
 
 -- ---- each kind of token
 

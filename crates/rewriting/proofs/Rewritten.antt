@@ -20,7 +20,7 @@ use Rattle.rewriting.specs.declared.stretch.Stop.{Stop}
 use Rattle.rewriting.specs.Output.{Within, Puts}
 use Rattle.rewriting.specs.Shortest.{Bounds}
 use Rattle.rewriting.specs.Rewriting.{Named, respelledText, changedToken, changedText, rewrittenText}
-use Rattle.rewriting.specs.Stretches.{Changes, Stays, Keeps, Halts, Ends, Stops, halted, ended}
+use Rattle.rewriting.specs.Stretches.{Changes, Stays, Passes, Keeps, Halts, Ends, Stops, halted, ended}
 use Rattle.rewriting.proofs.Outputs.{Owes, owes-all, owes-none, owes-within, owes-more, slice-join}
 use Rattle.rewriting.proofs.Respelled.{changed-is, bounds, named}
 
@@ -39,6 +39,22 @@ pub keeps-none : (c : Change) (s : List ℕ) (from to : ℕ) → from ≤ length
 keeps-none c s from to h = record { on = omega arith; inside = h; split = sym (ap (λ (l : List ℕ). l ++ rewrittenText c s from to) (slice-empty from s)) }
 
 module _ {c : Change} {s : List ℕ} {from to at : ℕ} (k : Keeps c s from to at) where
+  -- it goes on to an index
+  keeps-on : (next : ℕ) → at ≤ next → next ≤ length s → rewrittenText c s at to ≡ slice at next s ++ rewrittenText c s next to → Keeps c s from to next
+  keeps-on next h i e =
+      let more : List ℕ = rewrittenText c s next to in
+      record {
+        on = omega (arith, k .on, h);
+        inside = i;
+        split =
+            k .split ∙ ap (λ (l : List ℕ). slice from at s ++ l) e
+            ∙ sym (append-assoc (slice from at s) (slice at next s) more)
+            ∙ ap (λ (l : List ℕ). l ++ more) (slice-join from at next s (k .on) h i);
+      }
+
+  pub keeps-plain : at < to → {next : ℕ} → Passes s at next → Keeps c s from to next
+  keeps-plain h {next} p = keeps-on next (omega (arith, p .on)) (p .inside) (p .split c to h)
+
   -- nothing is left
   pub ends-there : to ≤ at → Ends c s to at
   ends-there h = record { none = ap (changedText c) (between-end s at to h) }
@@ -52,17 +68,7 @@ module _ {c : Change} {s : List ℕ} {from to at : ℕ} (k : Keeps c s from to a
     halts e = record { before = h; found = f; changes = stays .changes e }
 
     pub keeps-more : r ≡ true → Keeps c s from to (x .next)
-    keeps-more e =
-        let more : List ℕ = rewrittenText c s (x .next) to in
-        record {
-          on = omega (arith, k .on, f .on);
-          inside = f .inside;
-          split =
-              k .split
-              ∙ ap (λ (l : List ℕ). slice from at s ++ l) (rewritten-more c s at to x h f ∙ ap (λ (l : List ℕ). l ++ more) (stays .kept e))
-              ∙ sym (append-assoc (slice from at s) (slice at (x .next) s) more)
-              ∙ ap (λ (l : List ℕ). l ++ more) (slice-join from at (x .next) s (k .on) (omega (arith, f .on)) (f .inside));
-        }
+    keeps-more e = keeps-on (x .next) (omega (arith, f .on)) (f .inside) (rewritten-more c s at to x h f ∙ ap (λ (l : List ℕ). l ++ rewrittenText c s (x .next) to) (stays .kept e))
 
 -- what ended it
 module _ {c : Change} {s : List ℕ} {from to : ℕ} where

@@ -5,10 +5,9 @@ use mathlib.Core.Path.{_≡_, refl, sym, ap, _∙_, subst}
 use mathlib.Core.Logic.{_⊎_, inl, inr, ⊎-elim}
 use mathlib.Core.Bool.{Bool, true, false}
 use mathlib.Core.List.{List, [], _∷_, _++_}
-use lib.Dec.{T, ltb}
+use lib.Dec.{T}
 use lib.ListN.{length, getD, drop, length-append, length-drop}
 use lib.Seq.{slice, getD-drop}
-use borrow.Author.Tests.{ltb-true, ltb-false}
 use Rattle.decimal.specs.Digits.{isDigit, spelled}
 use Rattle.decimal.proofs.Decide.{and-left}
 use Rattle.decimal.proofs.Numerals.{areDigits, digit-high, decimal-small, decimal-some, spelled-digits, spelled-some}
@@ -22,10 +21,10 @@ use Rattle.scanner.specs.Scans.{Found}
 use Rattle.tokens.specs.Tokens.{Token, scalar, reference, opening, closing, ReferenceTag, readToken, tokenTold, writeToken, canonicalToken}
 use Rattle.tokens.proofs.Standing.{Stands, first-byte, found-stands}
 use Rattle.rewriting.specs.declared.rewrite.Change.{Change}
-use Rattle.rewriting.specs.Shortest.{shortestText}
+use Rattle.rewriting.specs.Shortest.{ShortestFront, shortestText}
 use Rattle.rewriting.specs.Rewriting.{respelledText}
-use Rattle.rewriting.specs.Stretches as stretches
-use Rattle.rewriting.specs.Stretches.{ShortestFront, Changes, Stays}
+use Rattle.rewriting.specs.Shortest as fronts
+use Rattle.rewriting.specs.Stretches.{Changes, Stays}
 use Rattle.rewriting.proofs.Spelled.{as-canonical, as-raised, raised-low, raised-other}
 use Rattle.rewriting.proofs.Respelled.{whole, respelled}
 
@@ -45,21 +44,21 @@ no-zero zero zero r h = absurd (omega (arith, h, ap (λ (l : List ℕ). getD (l 
 no-zero zero (suc n) r h = (refl, omega arith)
 
 -- A NUMBER BY ITS FIRST TWO BYTES
-no-zeros : (z n : ℕ) (r : List ℕ) → ShortestFront (getD (spelled z n ++ r) 0 0) (getD (spelled z n ++ r) 1 0) → z ≡ 0
+pub no-zeros : (z n : ℕ) (r : List ℕ) → ShortestFront (getD (spelled z n ++ r) 0 0) (getD (spelled z n ++ r) 1 0) → z ≡ 0
 no-zeros zero n r f = refl
-no-zeros (suc z) n r (stretches.digit h) = absurd (omega (arith, h))
-no-zeros (suc z) n r (stretches.alone h) = absurd (omega (arith, h, spelled-first z n r))
-no-zeros (suc z) n r (stretches.minus h i) = absurd (omega (arith, h))
+no-zeros (suc z) n r (fronts.digit h) = absurd (omega (arith, h))
+no-zeros (suc z) n r (fronts.alone h) = absurd (omega (arith, h, spelled-first z n r))
+no-zeros (suc z) n r (fronts.minus h i) = absurd (omega (arith, h))
 
 -- AND AN INTEGER
 shortest-integer : (g : Sign) (z n : ℕ) (r : List ℕ) → ShortestFront (getD (writeSign g (spelled z n ++ r)) 0 0) (getD (writeSign g (spelled z n ++ r)) 1 0) → (shortestSign g n ≡ g) × (z ≡ 0)
 shortest-integer unsigned z n r f = (refl, no-zeros z n r f)
-shortest-integer plus z n r (stretches.digit h) = absurd (omega (arith, h))
-shortest-integer plus z n r (stretches.alone h) = absurd (omega (arith, h, spelled-first z n r))
-shortest-integer plus z n r (stretches.minus h i) = absurd (omega (arith, h))
-shortest-integer minus z n r (stretches.digit h) = absurd (omega (arith, h))
-shortest-integer minus z n r (stretches.alone h) = absurd (omega (arith, h, spelled-first z n r))
-shortest-integer minus z n r (stretches.minus h i) = let p = no-zero z n r i in (signed n (p .1), p .0)
+shortest-integer plus z n r (fronts.digit h) = absurd (omega (arith, h))
+shortest-integer plus z n r (fronts.alone h) = absurd (omega (arith, h, spelled-first z n r))
+shortest-integer plus z n r (fronts.minus h i) = absurd (omega (arith, h))
+shortest-integer minus z n r (fronts.digit h) = absurd (omega (arith, h))
+shortest-integer minus z n r (fronts.alone h) = absurd (omega (arith, h, spelled-first z n r))
+shortest-integer minus z n r (fronts.minus h i) = let p = no-zero z n r i in (signed n (p .1), p .0)
   where
     signed : (n : ℕ) → 0 < n → shortestSign minus n ≡ minus
     signed zero h = absurd (omega arith)
@@ -71,13 +70,13 @@ shortest-integer minus z n r (stretches.minus h i) = let p = no-zero z n r i in 
 abbrev Plain : ℕ → Type 0
 Plain b = (b ≡ tag Kind.null) ⊎ ((b ≡ tag Kind.bool) ⊎ ((b ≡ tag Kind.float) ⊎ (b ≡ byte "}")))
 
-module _ (s : List ℕ) (at : ℕ) (x : Text) where
-  -- the bytes behind a tag and its colon
-  behind : (b : ℕ) (l : List ℕ) → drop at s ≡ b ∷ 58 ∷ l → ShortestFront (getD s (at + 2) 0) (getD s (at + 3) 0) → ShortestFront (getD l 0 0) (getD l 1 0)
-  behind b l e f =
-      subst (λ (j : ℕ). ShortestFront (getD l 0 0) j) (sym (getD-drop at s 3 0) ∙ ap (λ (m : List ℕ). getD m 3 0) e)
-      (subst (λ (i : ℕ). ShortestFront i (getD s (at + 3) 0)) (sym (getD-drop at s 2 0) ∙ ap (λ (m : List ℕ). getD m 2 0) e) f)
+-- the bytes behind a tag and its colon
+pub front-of : (s : List ℕ) (at b : ℕ) (l : List ℕ) → drop at s ≡ b ∷ 58 ∷ l → ShortestFront (getD s (at + 2) 0) (getD s (at + 3) 0) → ShortestFront (getD l 0 0) (getD l 1 0)
+front-of s at b l e f =
+    subst (λ (j : ℕ). ShortestFront (getD l 0 0) j) (sym (getD-drop at s 3 0) ∙ ap (λ (m : List ℕ). getD m 3 0) e)
+    (subst (λ (i : ℕ). ShortestFront i (getD s (at + 3) 0)) (sym (getD-drop at s 2 0) ∙ ap (λ (m : List ℕ). getD m 2 0) e) f)
 
+module _ (s : List ℕ) (at : ℕ) (x : Text) where
   plain-text : Plain (getD s at 0) → shortestText s at x ≡ slice at (x .next) s
   unfolding shortestText
   plain-text o = ⊎-elim (λ i. rw i) (λ o. ⊎-elim (λ i. rw i) (λ o. ⊎-elim (λ i. rw i) (λ i. rw i) o) o) o
@@ -85,19 +84,19 @@ module _ (s : List ℕ) (at : ℕ) (x : Text) where
   module _ (n : getD s at 0 ≡ tag Kind.object → ⊥) where
     same-opening : (c : Container) (w : Spelling) (k : ℕ) → Stands s at (opening (record { container = c; spelling = w }) k) x → ShortestFront (getD s (at + 2) 0) (getD s (at + 3) 0)
         → canonicalToken (opening (record { container = c; spelling = w }) k) ≡ opening (record { container = c; spelling = w }) k
-    same-opening array w k st f = ap (λ (z : ℕ). opening (record { container = array; spelling = record { zeros = z } }) k) (sym (no-zeros (w .zeros) k _ (behind 97 _ (st .written) f)))
+    same-opening array w k st f = ap (λ (z : ℕ). opening (record { container = array; spelling = record { zeros = z } }) k) (sym (no-zeros (w .zeros) k _ (front-of s at 97 _ (st .written) f)))
     same-opening (object q) w k st f = absurd (n (first-byte s at 79 _ (st .written)))
 
     same-token : (t : Token) → Stands s at t x → ShortestFront (getD s (at + 2) 0) (getD s (at + 3) 0) → canonicalToken t ≡ t
     same-token (scalar null) st f = refl
     same-token (scalar (bool b)) st f = refl
     same-token (scalar (int i)) st f =
-        let p = shortest-integer (i .sign) (i .zeros) (i .magnitude) _ (behind 105 _ (st .written) f) in
+        let p = shortest-integer (i .sign) (i .zeros) (i .magnitude) _ (front-of s at 105 _ (st .written) f) in
         ap (λ (g : Sign). scalar (int (record { sign = g; zeros = 0; magnitude = i .magnitude }))) (p .0)
         ∙ ap (λ (z : ℕ). scalar (int (record { sign = i .sign; zeros = z; magnitude = i .magnitude }))) (sym (p .1))
     same-token (scalar (float t)) st f = refl
-    same-token (scalar (string q)) st f = ap (λ (z : ℕ). scalar (string (record { spelling = record { zeros = z }; text = q .text }))) (sym (no-zeros (q .spelling .zeros) (length (q .text)) _ (behind 115 _ (st .written) f)))
-    same-token (reference r) st f = ap (λ (z : ℕ). reference (record { kind = r .kind; spelling = record { zeros = z }; named = r .named })) (sym (no-zeros (r .spelling .zeros) (r .named) _ (behind _ _ (st .written) f)))
+    same-token (scalar (string q)) st f = ap (λ (z : ℕ). scalar (string (record { spelling = record { zeros = z }; text = q .text }))) (sym (no-zeros (q .spelling .zeros) (length (q .text)) _ (front-of s at 115 _ (st .written) f)))
+    same-token (reference r) st f = ap (λ (z : ℕ). reference (record { kind = r .kind; spelling = record { zeros = z }; named = r .named })) (sym (no-zeros (r .spelling .zeros) (r .named) _ (front-of s at _ _ (st .written) f)))
     same-token (opening h k) st f = same-opening (h .container) (h .spelling) k st f
     same-token closing st f = refl
 
@@ -167,11 +166,11 @@ module _ {c : Change} (s : List ℕ) (at : ℕ) (x : Text) where
       same h = as-canonical s at x e ∙ respelled s at x (f .what) st ∙ ap (λ (t : Token). writeToken t []) (same-token s at x n (f .what) st h) ∙ sym (whole s at x (f .what) st)
 
   module _ {k : ℕ} (e : c ≡ Change.Raise k) where
-    pub reference-stays : ReferenceTag (getD s at 0) → Stays c s at x (ltb (x .content) k)
-    reference-stays o = record {
-      kept = λ i. as-raised s at x e ∙ raised-low k s at x o (ltb-true (x .content) k i);
-      changes = λ i. record { raises = λ m j. (o, omega (arith, ltb-false (x .content) k i, one (sym e ∙ j))) };
-    }
+    pub reference-stays : ReferenceTag (getD s at 0) → x .content < k → Stays c s at x true
+    reference-stays o h = does-stay (as-raised s at x e ∙ raised-low k s at x o h)
+
+    pub reference-changes : ReferenceTag (getD s at 0) → k ≤ x .content → Stays c s at x false
+    reference-changes o h = record { kept = λ i. absurd (differ (sym i)); changes = λ i. record { raises = λ m j. (o, omega (arith, h, one (sym e ∙ j))) } }
       where
         one : {m : ℕ} → Change.Raise k ≡ Change.Raise m → k ≡ m
         one j = cc

@@ -12,6 +12,12 @@ use Rattle.format.specs.Kind.{Kind, tag}
 use Rattle.scanner.specs.declared.Text.{Text}
 use Rattle.rewriting.specs.Output.{signedDigits}
 
+-- the first two bytes of a number or an integer tell that it is in shortest form: a digit other than 0; a digit and no more; a minus and a digit other than 0
+pub data ShortestFront (first second : ℕ) : Type 0 where
+  digit : byte "1" ≤ first → ShortestFront first second
+  alone : byte "9" < second → ShortestFront first second
+  minus : first ≡ byte "-" → byte "1" ≤ second → ShortestFront first second
+
 -- a tag and its colon, a number in shortest form, and the bytes from one index up to another
 abbrev pub numberedText : List ℕ → (at n from to : ℕ) → List ℕ
 numberedText s at n from to = slice at (at + 2) s ++ (decimal n ++ slice from to s)

@@ -5,19 +5,12 @@ use mathlib.Core.Bool.{Bool, true, false}
 use Prim.Native.Nat.{ℕ, _≤_, _<_}
 use lib.ListN.{length, getD}
 use lib.Seq.{slice}
-use Rattle.format.specs.Bytes.{byte}
 use Rattle.scanner.specs.declared.Text.{Text}
 use Rattle.scanner.specs.Scans.{Found}
 use Rattle.tokens.specs.Tokens.{readToken, tokenTold, ReferenceTag}
 use Rattle.rewriting.specs.declared.rewrite.Change.{Change}
 use Rattle.rewriting.specs.declared.stretch.Stop.{Stop}
 use Rattle.rewriting.specs.Rewriting.{respelledText, rewrittenText}
-
--- the first two bytes of a number or an integer tell that it is in shortest form: a digit other than 0; a digit and no more; a minus and a digit other than 0
-pub data ShortestFront (first second : ℕ) : Type 0 where
-  digit : byte "1" ≤ first → ShortestFront first second
-  alone : byte "9" < second → ShortestFront first second
-  minus : first ≡ byte "-" → byte "1" ≤ second → ShortestFront first second
 
 -- ---- one token
 
@@ -28,6 +21,16 @@ pub record Changes (c : Change) (s : List ℕ) (at : ℕ) (x : Text) : Type 0 wh
 pub record Stays (c : Change) (s : List ℕ) (at : ℕ) (x : Text) (r : Bool) : Type 0 where
   pub kept : r ≡ true → respelledText c s at x ≡ slice at (x .next) s
   pub changes : r ≡ false → Changes c s at x
+
+pub record TagAt (s : List ℕ) (at tag : ℕ) : Type 0 where
+  pub inside : at < length s
+  pub is : getD s at 0 ≡ tag
+
+-- whatever the change, the bytes up to an index and what is written from there on
+pub record Passes (s : List ℕ) (at next : ℕ) : Type 0 where
+  pub on : at < next
+  pub inside : next ≤ length s
+  pub split : (c : Change) (to : ℕ) → at < to → rewrittenText c s at to ≡ slice at next s ++ rewrittenText c s next to
 
 -- ---- a stretch
 

@@ -9,6 +9,7 @@ ghost use Rattle.rewriting.specs.Edited.{writable, Edits};
 
 pub mod inserted;
 mod output;
+mod plain;
 mod rewrite;
 mod shortest;
 mod stretch;

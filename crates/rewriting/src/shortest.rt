@@ -4,10 +4,28 @@ use crate::output::integer;
 use crate::output::number;
 use format::kind::Kind;
 use scanner::Text;
+ghost use mathlib.Core.Path.{_≡_};
+ghost use mathlib.Core.Bool.{true};
 ghost use Prim.Native.Nat.{_+_, _≤_};
 ghost use lib.ListN.{length};
 ghost use Rattle.rewriting.specs.Output.{Within, Puts};
-ghost use Rattle.rewriting.specs.Shortest.{numberedText, signedText, objectHeadText, shortestText, QuotedBounds, Bounds};
+ghost use Rattle.rewriting.specs.Shortest.{ShortestFront, numberedText, signedText, objectHeadText, shortestText, QuotedBounds, Bounds};
+
+// Whether a number or an integer is in shortest form, by its first two bytes: a digit other than 0; or one digit and no more; or a minus and a digit other than 0.
+pub(crate) fn is_shortest(first: u8, second: u8) -> bool
+    ensures { λ r. ⌜ (r ≡ true → ShortestFront first second) ⌝ }
+{
+    if b'1' <= first {
+        return true;
+    }
+    if b'9' < second {
+        return true;
+    }
+    if first == b'-' {
+        return b'1' <= second;
+    }
+    false
+}
 
 // A tag and its colon, a number in shortest form, and the bytes from one index up to another.
 pub(crate) fn numbered(

@@ -36,21 +36,25 @@ enum-known-change : tie.Need-enum-known-change
 enum-known-change c = search needs
 
 returns : tie.Need-returns
-returns c = staying.plain-stays _ _ _ (c .before .enum-told .given .1) (c .match2 .keys1)
+returns c = staying.reference-changes _ _ _ (c .before .before .before .change .given .1) (c .before .match3 .keys1) (omega (arith, c .if1 .taken))
 
 returns-2 : tie.Need-returns-2
-returns-2 c = staying.object-changes _ _ _ (c .before .enum-told .given .1)
+returns-2 c = staying.plain-stays _ _ _ (c .before .enum-told .given .1) (c .match2 .keys1)
 
 returns-3 : tie.Need-returns-3
-returns-3 c =
-    let matched = c .before .before .before in
-    staying.number-stays _ _ _ (c .before .before .before .before .before .before .before .before .pre) (matched .before .enum-told .given .1) (matched .match2 .rest .1) _ (c .is-shortest .ensures)
+returns-3 c = staying.object-changes _ _ _ (c .before .enum-told .given .1)
 
 returns-4 : tie.Need-returns-4
-returns-4 c = staying.reference-stays _ _ _ (c .before .before .before .change .given .1) (c .before .match3 .keys1)
+returns-4 c =
+    let matched = c .before .before .before in
+    let start = matched .before .before .before .before .before in
+    staying.number-stays _ _ _ (start .pre) (matched .before .enum-told .given .1) (matched .match2 .rest .1) _ (c .is-shortest .ensures)
 
 returns-5 : tie.Need-returns-5
-returns-5 c = staying.other-stays _ _ _ (c .before .before .change .given .1) (c .match3 .rest .1)
+returns-5 c = staying.reference-stays _ _ _ (c .before .before .before .change .given .1) (c .before .match3 .keys1) (omega (arith, c .if1 .left))
+
+returns-6 : tie.Need-returns-6
+returns-6 c = staying.other-stays _ _ _ (c .before .before .change .given .1) (c .match3 .rest .1)
 
 pub stays-spec : {M : Type 1} → statement M
 stays-spec =
@@ -68,4 +72,5 @@ stays-spec =
     returns-2
     returns-3
     returns-4
-    returns-5)
+    returns-5
+    returns-6)

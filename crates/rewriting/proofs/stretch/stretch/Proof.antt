@@ -18,8 +18,19 @@ abbrev μ-loop : tie.MeasureT-loop
 loop-holds : tie.Need-loop-holds Inv-loop μ-loop
 loop-holds c = rewritten.keeps-none _ _ _ _ (c .before .pre)
 
-token-at-requires : tie.Need-token-at-requires Inv-loop μ-loop
-token-at-requires c κs = search needs
+behind-plain-requires : tie.Need-behind-plain-requires Inv-loop μ-loop
+behind-plain-requires c κs = search needs
+
+loop-less : tie.Need-loop-less Inv-loop μ-loop
+loop-less c = omega (arith, c .if1 .taken, c .before .before .loop-test .taken)
+
+loop-again : tie.Need-loop-again Inv-loop μ-loop
+loop-again c =
+    let tested = c .before .before in
+    rewritten.keeps-plain (tested .before .loop .inv) (tested .loop-test .taken) (c .before .behind-plain .ensures (c .if1 .taken))
+
+token-requires : tie.Need-token-requires Inv-loop μ-loop
+token-requires c κs = search needs
 
 enum-known-scan : tie.Need-enum-known-scan Inv-loop μ-loop
 enum-known-scan c = search needs
@@ -29,32 +40,32 @@ enum-told c = search needs
 
 returns : tie.Need-returns Inv-loop μ-loop
 returns c =
-    let kept = c .before .before .before .before .loop .inv in
-    ended _ kept (rewritten.ends-unfit kept (c .before .before .token-at .ensures .scans) (c .enum-told .given .1))
+    let kept = c .before .before .before .before .before .before .loop .inv in
+    ended _ kept (rewritten.ends-unfit kept (c .before .before .token .ensures .scans) (c .enum-told .given .1))
 
 stays-requires : tie.Need-stays-requires Inv-loop μ-loop
-stays-requires c κs = found-of (c .before .before .before .token-at .ensures .scans) (c .before .scan .given .1)
+stays-requires c κs = found-of (c .before .before .before .token .ensures .scans) (c .before .scan .given .1)
 
 returns-2 : tie.Need-returns-2 Inv-loop μ-loop
 returns-2 c =
     let scanned = c .before .before .before in
-    let tested = scanned .before .before .before in
+    let tested = scanned .before .before .before .before .before in
     let kept = tested .before .loop .inv in
-    let found = found-of (scanned .before .before .token-at .ensures .scans) (scanned .scan .given .1) in
-    halted _ _ kept (rewritten.halts kept (tested .loop-test .taken) found (c .before .stays .ensures) (not-true _ (c .if1 .taken)))
+    let found = found-of (scanned .before .before .token .ensures .scans) (scanned .scan .given .1) in
+    halted _ _ kept (rewritten.halts kept (tested .loop-test .taken) found (c .before .stays .ensures) (not-true _ (c .if2 .taken)))
 
-loop-less : tie.Need-loop-less Inv-loop μ-loop
-loop-less c =
+loop-less-2 : tie.Need-loop-less-2 Inv-loop μ-loop
+loop-less-2 c =
     let scanned = c .before .before .before in
-    let tested = scanned .before .before .before in
-    omega (arith, found-of (scanned .before .before .token-at .ensures .scans) (scanned .scan .given .1) .on, tested .loop-test .taken)
+    let tested = scanned .before .before .before .before .before in
+    omega (arith, found-of (scanned .before .before .token .ensures .scans) (scanned .scan .given .1) .on, tested .loop-test .taken)
 
-loop-again : tie.Need-loop-again Inv-loop μ-loop
-loop-again c =
+loop-again-2 : tie.Need-loop-again-2 Inv-loop μ-loop
+loop-again-2 c =
     let scanned = c .before .before .before in
-    let tested = scanned .before .before .before in
-    let found = found-of (scanned .before .before .token-at .ensures .scans) (scanned .scan .given .1) in
-    rewritten.keeps-more (tested .before .loop .inv) (tested .loop-test .taken) found (c .before .stays .ensures) (not-false _ (c .if1 .left))
+    let tested = scanned .before .before .before .before .before in
+    let found = found-of (scanned .before .before .token .ensures .scans) (scanned .scan .given .1) in
+    rewritten.keeps-more (tested .before .loop .inv) (tested .loop-test .taken) found (c .before .stays .ensures) (not-false _ (c .if2 .left))
 
 returns-3 : tie.Need-returns-3 Inv-loop μ-loop
 returns-3 c =
@@ -68,12 +79,15 @@ stretch-spec =
     Inv-loop
     μ-loop
     loop-holds
-    token-at-requires
+    behind-plain-requires
+    loop-less
+    loop-again
+    token-requires
     enum-known-scan
     enum-told
     returns
     stays-requires
     returns-2
-    loop-less
-    loop-again
+    loop-less-2
+    loop-again-2
     returns-3)

@@ -1,12 +1,12 @@
--- `rewriting::stretch::is_shortest` meets its contract. Assumes nothing.
+-- `rewriting::shortest::is_shortest` meets its contract. Assumes nothing.
 use native.Mathlib.Omega.{arith}
 use mathlib.Core.Path.{_≡_}
 use mathlib.Core.Bool.{true, false}
 use Prim.Native.Nat.{ℕ}
 use borrow.Author.Tests.{leb-true}
-use Rattle.rewriting.specs.Stretches.{digit, alone, minus}
-use Rattle.rewriting.proofs.stretch.is_shortest.Statement.{statement}
-use Rattle.rewriting.proofs.stretch.is_shortest.Tie as tie
+use Rattle.rewriting.specs.Shortest.{digit, alone, minus}
+use Rattle.rewriting.proofs.shortest.is_shortest.Statement.{statement}
+use Rattle.rewriting.proofs.shortest.is_shortest.Tie as tie
 
 returns : tie.Need-returns
 returns c = λ e. digit (c .if1 .taken)
