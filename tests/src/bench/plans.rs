@@ -7,6 +7,8 @@ use crate::model;
 
 /// Bytes of the longest plan that is read or written.
 const SOURCE_LIMIT: usize = 65_536;
+/// Bytes of a pair that has fewest.
+const SHORTEST_PAIR: usize = 6;
 /// Bytes of the longest plans that a pair is put into, so that what is written is a plan still.
 const BEFORE_INSERTING: usize = 59_000;
 /// The arrays of all months, and of the first, in the year.
@@ -51,23 +53,31 @@ pub fn of(service: Service) -> Vec<Plan> {
         Service::Insert => insertions(),
         _ => vec![
             plan(YEAR, year()),
-            filled(LARGEST_LIST, SOURCE_LIMIT, LIST),
-            filled(FLOATS, SOURCE_LIMIT, |i, _| format!("i:{i};d:12.5;")),
-            filled(RISING_STRINGS, SOURCE_LIMIT, STRINGS),
-            filled(MIXED_STRINGS, SOURCE_LIMIT, |i, pairs| {
+            filled(LARGEST_LIST, LIST),
+            filled(FLOATS, |i, _| format!("i:{i};d:12.5;")),
+            filled(RISING_STRINGS, STRINGS),
+            filled(MIXED_STRINGS, |i, pairs| {
                 STRINGS(scattered(i, pairs), pairs)
             }),
-            filled(LONG_STRINGS, SOURCE_LIMIT, |i, pairs| {
+            filled(LONG_STRINGS, |i, pairs| {
                 format!("s:64:\"{:064}\";N;", scattered(i, pairs))
             }),
-            filled(FALLING_INTEGERS, SOURCE_LIMIT, |i, pairs| {
-                format!("i:{};N;", pairs - i)
-            }),
-            filled("multiples of 8,192, mixed", SOURCE_LIMIT, MULTIPLES),
+            filled(FALLING_INTEGERS, |i, pairs| format!("i:{};N;", pairs - i)),
+            filled("multiples of 8,192, mixed", MULTIPLES),
             colliding(),
-            filled("list, 8 pairs", 80, LIST),
-            filled("8 string keys, mixed", 105, SHORT_STRINGS),
-            filled("34 string keys, mixed", 483, SHORT_STRINGS),
+            plan("list of 8", array(8, LIST)),
+            plan(
+                "8 string keys, mixed",
+                array(8, |i, pairs| {
+                    format!("s:3:\"d{:02}\";N;", scattered(i, pairs))
+                }),
+            ),
+            plan(
+                "34 string keys, mixed",
+                array(34, |i, pairs| {
+                    format!("s:5:\"day{:02}\";N;", scattered(i, pairs))
+                }),
+            ),
         ],
     }
 }
@@ -89,7 +99,6 @@ fn insertions() -> Vec<Plan> {
 
 const LIST: Pair = |i, _| format!("i:{i};i:0;");
 const STRINGS: Pair = |i, _| format!("s:8:\"day{i:05}\";N;");
-const SHORT_STRINGS: Pair = |i, pairs| format!("s:4:\"k{:03}\";N;", scattered(i, pairs));
 const MULTIPLES: Pair = |i, pairs| format!("i:{};N;", scattered(i, pairs) * 8192);
 const ONE_NAMED: Pair = |i, _| match i {
     0 => "i:0;N;".into(),
@@ -137,11 +146,11 @@ fn day(name: &'static str, array_node: usize, pair_index: usize) -> Plan {
 
 /// One pair more in a long array; its place is made of their count.
 fn into(name: &'static str, pair: Pair, place: impl Fn(usize) -> usize) -> Plan {
-    let (source, pairs) = array(BEFORE_INSERTING, pair);
+    let pairs = most_pairs(BEFORE_INSERTING, pair);
     Plan {
         name,
         texts: Texts {
-            source,
+            source: array(pairs, pair),
             key: b"i:-59;".into(),
             value: b"d:9.75;".into(),
         },
@@ -152,37 +161,32 @@ fn into(name: &'static str, pair: Pair, place: impl Fn(usize) -> usize) -> Plan 
     }
 }
 
-/// An array with as many pairs as so many bytes hold.
-fn filled(name: &'static str, limit: usize, pair: impl Fn(usize, usize) -> String) -> Plan {
-    plan(name, array(limit, pair).0)
+/// An array with as many pairs as the longest plan holds.
+fn filled(name: &'static str, pair: impl Fn(usize, usize) -> String) -> Plan {
+    plan(name, array(most_pairs(SOURCE_LIMIT, &pair), pair))
 }
 
-/// An array with as many pairs as so many bytes hold, and their count.
-fn array(limit: usize, pair: impl Fn(usize, usize) -> String) -> (Vec<u8>, usize) {
-    let with = |pairs: usize| {
-        let texts: String = (0..pairs).map(|i| pair(i, pairs)).collect();
-        format!("a:{pairs}:{{{texts}}}").into_bytes()
-    };
-    let (mut fits, mut above) = (0, most_pairs(limit) + 1);
+fn most_pairs(limit: usize, pair: impl Fn(usize, usize) -> String) -> usize {
+    let (mut fits, mut above) = (0, limit / SHORTEST_PAIR + 1);
     while fits + 1 < above {
         let pairs = (fits + above) / 2;
-        if with(pairs).len() <= limit {
+        if array(pairs, &pair).len() <= limit {
             fits = pairs;
         } else {
             above = pairs;
         }
     }
-    (with(fits), fits)
+    fits
 }
 
-/// That so many bytes can hold: none has fewer than six.
-fn most_pairs(limit: usize) -> usize {
-    limit / 6
+fn array(pairs: usize, pair: impl Fn(usize, usize) -> String) -> Vec<u8> {
+    let texts: String = (0..pairs).map(|i| pair(i, pairs)).collect();
+    format!("a:{pairs}:{{{texts}}}").into_bytes()
 }
 
 fn colliding() -> Plan {
-    let keys = collide::keys(most_pairs(SOURCE_LIMIT));
-    filled(COLLIDING, SOURCE_LIMIT, |i, pairs| {
+    let keys = collide::keys(SOURCE_LIMIT / SHORTEST_PAIR);
+    filled(COLLIDING, |i, pairs| {
         // Falling, since keys that rise are never looked for.
         format!("i:{};N;", keys[pairs - 1 - i])
     })
