@@ -1,45 +1,79 @@
 //! The goals that a run is held to. A missed one is told and nothing more: no test rests on a time.
 
-use super::plans::{DAYS, LARGEST_LIST};
-use super::table::Times;
+use super::plans::{self, Plan};
+use super::table::{median, told, Measured};
 use crate::call::Service;
 
-const OF_PEER: f64 = 1.5;
-const OF_PHP: f64 = 0.5;
+/// What a plan's call may take at most.
+enum Limit {
+    /// Of the peer's time. The numbers were set beside a reader of 0.64 ns a byte on the largest list, so the peer's own
+    /// is told too.
+    OfPeer(f64),
+    OfPhp(f64),
+    Microseconds(f64),
+}
 
-/// What was measured of each; the highest, where several plans are meant.
+use Limit::{Microseconds, OfPeer, OfPhp};
+
+const GOALS: [(Service, &str, Limit); 10] = [
+    (Service::Read, plans::LARGEST_LIST, OfPeer(1.9)),
+    (Service::Read, plans::FLOATS, OfPeer(1.6)),
+    (Service::Read, plans::YEAR, OfPeer(4.8)),
+    (Service::Read, plans::FALLING_INTEGERS, OfPeer(2.0)),
+    (Service::Read, plans::RISING_STRINGS, OfPeer(2.0)),
+    (Service::Read, plans::MIXED_STRINGS, OfPeer(2.0)),
+    (Service::Read, plans::LONG_STRINGS, OfPeer(2.0)),
+    (
+        Service::Canonicalize,
+        plans::LARGEST_LIST,
+        Microseconds(230.0),
+    ),
+    (Service::Insert, plans::DAYS[0], OfPhp(0.8)),
+    (Service::Insert, plans::DAYS[1], OfPhp(0.8)),
+];
+
+/// The lines of those that were measured.
 #[derive(Default)]
 pub struct Goals {
-    list: Option<f64>,
-    day: Option<f64>,
+    lines: Vec<String>,
 }
 
 impl Goals {
-    pub fn note(&mut self, service: Service, plan: &str, times: &Times) {
-        if service == Service::Read && plan == LARGEST_LIST {
-            self.list = times.to_peer();
-        }
-        if service == Service::Insert && DAYS.contains(&plan) {
-            let highest = self.day.unwrap_or(0.0);
-            self.day = times.to_php().map(|ratio| ratio.max(highest));
+    pub fn note(&mut self, service: Service, plan: &Plan, measured: &Measured) {
+        for (of, name, limit) in &GOALS {
+            if (*of, *name) == (service, plan.name) {
+                self.lines.push(line(service, plan, measured, limit));
+            }
         }
     }
 
     pub fn told(&self) -> String {
-        format!(
-            "\ngoals\n\
-             reading the largest list, to the Rust peer at most {OF_PEER:.2}: {}\n\
-             inserting a day into the year, to PHP at most {OF_PHP:.2}: {}",
-            verdict(self.list, OF_PEER),
-            verdict(self.day, OF_PHP)
-        )
+        let lines = self.lines.join("\n");
+        format!("\n| goal | at most | measured | the peer's ns a byte | |\n|---|---|---|--:|---|\n{lines}")
     }
 }
 
-fn verdict(measured: Option<f64>, limit: f64) -> String {
-    let Some(ratio) = measured else {
-        return "not measured".into();
+fn line(service: Service, plan: &Plan, measured: &Measured, limit: &Limit) -> String {
+    let time = median(measured.library.clone()).map(|time| time / 1000.0);
+    let (most, found, unit) = match limit {
+        OfPeer(most) => (most, measured.to_peer(), "of the peer's time"),
+        OfPhp(most) => (most, measured.to_php(), "of PHP's time"),
+        Microseconds(most) => (most, time, "µs"),
     };
-    let verdict = if ratio <= limit { "met" } else { "missed" };
-    format!("{ratio:.2}, {verdict}")
+    let verdict = match found {
+        Some(found) if found <= *most => "met",
+        Some(_) => "missed",
+        None => "not measured",
+    };
+    let also = match limit {
+        Microseconds(_) => format!(", {} of the peer's time", told(measured.to_peer())),
+        _ => String::new(),
+    };
+    let peer = median(measured.peer.clone()).map(|time| time / plan.texts.source.len() as f64);
+    format!(
+        "| `{service}`: {} | {most} {unit} | {}{also} | {} | {verdict} |",
+        plan.name,
+        told(found),
+        told(peer)
+    )
 }

@@ -3,17 +3,12 @@
 // without opcache, with serialize_precision -1 and memory_limit 128M.
 //
 // A message is its length in bytes, a line feed and so many bytes. The first one sent is PHP's version. A request is
-// serialized: an array prepares a call, which is made once and its plan sent back, an integer asks for a round of so
-// many nanoseconds, whose time of one call is sent back.
+// serialized: an array with names prepares a call, which is made once and its plan sent back; a list, the nanoseconds of
+// a batch and of a round, asks for a round, whose time of one call is sent back.
 
-// As a program that owns such plans would have them; an unknown class costs PHP more.
+// As a program that owns such plans would have it; an unknown class costs PHP more.
 #[AllowDynamicProperties]
 final class AirPlan
-{
-}
-
-#[AllowDynamicProperties]
-final class Plan
 {
 }
 
@@ -55,24 +50,36 @@ function prepared(array $asked): Closure
     return fn () => inserted($source, $path, $place, $key, $value);
 }
 
-/** Nanoseconds a call. Freeing what it made is part of it. */
-function round_of(Closure $call, int $least): float
+/** Nanoseconds of so many calls. Freeing what they made is part of it. */
+function batch(Closure $call, int $calls): int
 {
-    $calls = 0;
     $start = hrtime(true);
-    do {
+    for ($i = 0; $i < $calls; $i++) {
         $call();
-        $calls++;
-        $spent = hrtime(true) - $start;
-    } while ($spent < $least);
-    return $spent / $calls;
+    }
+    return hrtime(true) - $start;
+}
+
+/** Nanoseconds a call in the fastest batch, as bench.rs has it for the others. */
+function round_of(Closure $call, int $batch, int $round): float
+{
+    $start = hrtime(true);
+    $calls = 1;
+    while (batch($call, $calls) < $batch) {
+        $calls *= 2;
+    }
+    $fastest = batch($call, $calls);
+    while (hrtime(true) - $start < $round) {
+        $fastest = min($fastest, batch($call, $calls));
+    }
+    return $fastest / $calls;
 }
 
 send(PHP_VERSION);
 while (($length = fgets(STDIN)) !== false) {
     $request = unserialize(stream_get_contents(STDIN, (int) $length));
-    if (is_int($request)) {
-        send((string) round_of($call, $request));
+    if (array_is_list($request)) {
+        send((string) round_of($call, ...$request));
     } else {
         $call = prepared($request);
         $made = $call();

@@ -55,9 +55,14 @@ impl Php {
         self.ask(&request)
     }
 
-    /// Nanoseconds a call, of calls that go on for at least so long.
-    pub fn round(&mut self, least: Duration) -> io::Result<f64> {
-        let reply = self.ask(format!("i:{};", least.as_nanos()).as_bytes())?;
+    /// Nanoseconds a call, in the fastest of the batches of at least so long that a round of so long has time for.
+    pub fn round(&mut self, batch: Duration, round: Duration) -> io::Result<f64> {
+        let request = format!(
+            "a:2:{{i:0;i:{};i:1;i:{};}}",
+            batch.as_nanos(),
+            round.as_nanos()
+        );
+        let reply = self.ask(request.as_bytes())?;
         let time = String::from_utf8_lossy(&reply).parse();
         time.map_err(io::Error::other)
     }

@@ -1,18 +1,29 @@
-//! The plans that are timed: a year as the works keeps it, and long ones that are hard on a reader's keys or on the
-//! references that inserting renumbers.
+//! The plans that are timed: a year as the works keeps it, long ones that are hard on a reader's keys or on the
+//! references that inserting renumbers, and short ones.
 
-use crate::call::{Lent, Place, Service, Texts};
+use super::{collide, peer};
+use crate::call::{Call, Lent, Place, Service, Texts};
 use crate::model;
 
+/// Bytes of the longest plan that is read or written.
 const SOURCE_LIMIT: usize = 65_536;
+/// Bytes of a pair that has fewest.
+const SHORTEST_PAIR: usize = 6;
 /// Bytes of the longest plans that a pair is put into, so that what is written is a plan still.
 const BEFORE_INSERTING: usize = 59_000;
 /// The arrays of all months, and of the first, in the year.
 const MONTHS: usize = 6;
 const JANUARY: usize = 8;
 
-/// Those that a goal is about: the largest list that can be read, and the days put into the year.
+/// Those that a goal is about.
+pub const YEAR: &str = "year, two days in five by R";
 pub const LARGEST_LIST: &str = "list, integer keys from 0";
+pub const FLOATS: &str = "list of floats";
+pub const RISING_STRINGS: &str = "string keys, rising";
+pub const MIXED_STRINGS: &str = "string keys, mixed";
+pub const LONG_STRINGS: &str = "string keys of 64 bytes, mixed";
+pub const FALLING_INTEGERS: &str = "integer keys, falling";
+pub const COLLIDING: &str = "integer keys made to collide";
 pub const DAYS: [&str; 2] = ["year, a day into January", "year, a day behind the last"];
 
 /// A plan and, for inserting, a pair and its place.
@@ -22,26 +33,50 @@ pub struct Plan {
     pub place: Place,
 }
 
-/// What a pair is made of: its place and the count of all.
+impl Plan {
+    /// With room for every node that such a source can have, and for a pair's: none has fewer than two bytes.
+    pub fn call(&self, service: Service) -> Call {
+        let table_len = (self.texts.source.len() / 2 + 2) * peer::WIDTH;
+        match service {
+            Service::Read => Call::read(table_len),
+            Service::Canonicalize => Call::canonicalize(table_len, SOURCE_LIMIT),
+            Service::Insert => Call::insert(self.place, table_len, SOURCE_LIMIT),
+        }
+    }
+}
+
+/// Made of its place and the count of all.
 type Pair = fn(usize, usize) -> String;
 
 pub fn of(service: Service) -> Vec<Plan> {
     match service {
         Service::Insert => insertions(),
         _ => vec![
-            plan("year, two days in five by R", year()),
-            plan(LARGEST_LIST, filled(SOURCE_LIMIT, "a", LIST).0),
+            plan(YEAR, year()),
+            filled(LARGEST_LIST, LIST),
+            filled(FLOATS, |i, _| format!("i:{i};d:12.5;")),
+            filled(RISING_STRINGS, STRINGS),
+            filled(MIXED_STRINGS, |i, pairs| {
+                STRINGS(scattered(i, pairs), pairs)
+            }),
+            filled(LONG_STRINGS, |i, pairs| {
+                format!("s:64:\"{:064}\";N;", scattered(i, pairs))
+            }),
+            filled(FALLING_INTEGERS, |i, pairs| format!("i:{};N;", pairs - i)),
+            filled("multiples of 8,192, mixed", MULTIPLES),
+            colliding(),
+            plan("list of 8", array(8, LIST)),
             plan(
-                "object, string keys",
-                filled(SOURCE_LIMIT, "O:4:\"Plan\"", STRINGS).0,
+                "8 string keys, mixed",
+                array(8, |i, pairs| {
+                    format!("s:3:\"d{:02}\";N;", scattered(i, pairs))
+                }),
             ),
             plan(
-                "multiples of 8,192, out of order",
-                filled(SOURCE_LIMIT, "a", MULTIPLES).0,
-            ),
-            plan(
-                "integer keys, falling",
-                filled(SOURCE_LIMIT, "a", FALLING).0,
+                "34 string keys, mixed",
+                array(34, |i, pairs| {
+                    format!("s:5:\"day{:02}\";N;", scattered(i, pairs))
+                }),
             ),
         ],
     }
@@ -65,7 +100,6 @@ fn insertions() -> Vec<Plan> {
 const LIST: Pair = |i, _| format!("i:{i};i:0;");
 const STRINGS: Pair = |i, _| format!("s:8:\"day{i:05}\";N;");
 const MULTIPLES: Pair = |i, pairs| format!("i:{};N;", scattered(i, pairs) * 8192);
-const FALLING: Pair = |i, pairs| format!("i:{};N;", pairs - i);
 const ONE_NAMED: Pair = |i, _| match i {
     0 => "i:0;N;".into(),
     _ => format!("i:{i};R:2;"),
@@ -112,11 +146,11 @@ fn day(name: &'static str, array_node: usize, pair_index: usize) -> Plan {
 
 /// One pair more in a long array; its place is made of their count.
 fn into(name: &'static str, pair: Pair, place: impl Fn(usize) -> usize) -> Plan {
-    let (source, pairs) = filled(BEFORE_INSERTING, "a", pair);
+    let pairs = most_pairs(BEFORE_INSERTING, pair);
     Plan {
         name,
         texts: Texts {
-            source,
+            source: array(pairs, pair),
             key: b"i:-59;".into(),
             value: b"d:9.75;".into(),
         },
@@ -127,29 +161,38 @@ fn into(name: &'static str, pair: Pair, place: impl Fn(usize) -> usize) -> Plan 
     }
 }
 
-/// A container with as many pairs as so many bytes hold, and their count.
-fn filled(limit: usize, head: &str, pair: Pair) -> (Vec<u8>, usize) {
-    let with = |pairs: usize| {
-        let mut text = format!("{head}:{pairs}:{{");
-        for i in 0..pairs {
-            text.push_str(&pair(i, pairs));
-        }
-        text.push('}');
-        text
-    };
-    let (mut fits, mut above) = (0, limit);
+/// An array with as many pairs as the longest plan holds.
+fn filled(name: &'static str, pair: impl Fn(usize, usize) -> String) -> Plan {
+    plan(name, array(most_pairs(SOURCE_LIMIT, &pair), pair))
+}
+
+fn most_pairs(limit: usize, pair: impl Fn(usize, usize) -> String) -> usize {
+    let (mut fits, mut above) = (0, limit / SHORTEST_PAIR + 1);
     while fits + 1 < above {
         let pairs = (fits + above) / 2;
-        if with(pairs).len() <= limit {
+        if array(pairs, &pair).len() <= limit {
             fits = pairs;
         } else {
             above = pairs;
         }
     }
-    (with(fits).into_bytes(), fits)
+    fits
 }
 
-/// The numbers below `count`, each once and neither rising nor falling: 65,537 is a prime above every count.
+fn array(pairs: usize, pair: impl Fn(usize, usize) -> String) -> Vec<u8> {
+    let texts: String = (0..pairs).map(|i| pair(i, pairs)).collect();
+    format!("a:{pairs}:{{{texts}}}").into_bytes()
+}
+
+fn colliding() -> Plan {
+    let keys = collide::keys(SOURCE_LIMIT / SHORTEST_PAIR);
+    filled(COLLIDING, |i, pairs| {
+        // Falling, since keys that rise are never looked for.
+        format!("i:{};N;", keys[pairs - 1 - i])
+    })
+}
+
+/// The numbers below `count`, each once and neither rising nor falling: 65,539 is a prime above every count.
 fn scattered(i: usize, count: usize) -> usize {
-    i * 65_537 % count
+    i * 65_539 % count
 }

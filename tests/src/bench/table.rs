@@ -1,18 +1,19 @@
-//! What was measured, as lines of a table.
+//! What was measured, as lines of a table in Markdown: docs/PERFORMANCE.md has them as they are printed.
 
 use super::plans::Plan;
 use crate::call::Service;
 
 /// Nanoseconds a call, round by round; those with the same index were measured one after the other. PHP's are none
-/// where it is missing.
+/// where it is missing. Of the library also the instructions of a call, where they are counted.
 #[derive(Default)]
-pub struct Times {
+pub struct Measured {
     pub library: Vec<f64>,
     pub peer: Vec<f64>,
     pub php: Vec<f64>,
+    pub instructions: Option<u64>,
 }
 
-impl Times {
+impl Measured {
     pub fn to_peer(&self) -> Option<f64> {
         self.ratio_to(&self.peer)
     }
@@ -29,47 +30,66 @@ impl Times {
     }
 }
 
-fn median(mut values: Vec<f64>) -> Option<f64> {
+pub fn median(mut values: Vec<f64>) -> Option<f64> {
     values.sort_by(f64::total_cmp);
     values.get(values.len() / 2).copied()
 }
 
-pub fn head(service: Service) -> String {
-    let php = match service {
-        Service::Read => "unserialize",
-        Service::Canonicalize => "and serialize",
-        Service::Insert => "splice, serialize",
+/// Three digits or more.
+pub fn told(value: Option<f64>) -> String {
+    let Some(value) = value else {
+        return "-".into();
     };
-    let names = format!(
-        "{:<41} {:>18} {:>18} {php:>18} {:>15}",
-        "",
-        service.to_string(),
-        "Rust peer",
-        "library to"
-    );
-    let time = format!("{:>9} {:>8}", "µs", "ns/byte");
-    let ratios = format!("{:>8} {:>6}", "peer", "PHP");
-    let units = format!(
-        "{:<34} {:>6} {time} {time} {time} {ratios}",
-        "plan", "bytes"
-    );
-    format!("\n{names}\n{units}")
+    let decimals = match value {
+        100.0.. => 0,
+        10.0.. => 1,
+        _ => 2,
+    };
+    format!("{value:.decimals$}")
 }
 
-pub fn row(plan: &Plan, times: &Times) -> String {
-    let bytes = plan.texts.source.len();
-    let time = |times: &[f64]| match median(times.to_vec()) {
-        Some(time) => format!("{:>9.1} {:>8.2}", time / 1000.0, time / bytes as f64),
-        None => format!("{:>9} {:>8}", "-", "-"),
-    };
-    let ratio = |ratio: Option<f64>| ratio.map_or("-".into(), |ratio| format!("{ratio:.2}"));
-    format!(
-        "{:<34} {bytes:>6} {} {} {} {:>8} {:>6}",
-        plan.name,
-        time(&times.library),
-        time(&times.peer),
-        time(&times.php),
-        ratio(times.to_peer()),
-        ratio(times.to_php()),
-    )
+pub fn head(service: Service) -> String {
+    let names = line(&[
+        service.to_string(),
+        "bytes".into(),
+        "library, µs".into(),
+        "ns a byte".into(),
+        "instr. a byte".into(),
+        "Rust, µs".into(),
+        "ns a byte".into(),
+        "PHP, µs".into(),
+        "to Rust".into(),
+        "to PHP".into(),
+    ]);
+    format!("\n{names}\n|---|--:|--:|--:|--:|--:|--:|--:|--:|--:|")
+}
+
+pub fn row(plan: &Plan, measured: &Measured) -> String {
+    let bytes = plan.texts.source.len() as f64;
+    let microseconds = |times: &[f64]| told(median(times.to_vec()).map(|time| time / 1000.0));
+    let by_byte = |times: &[f64]| told(median(times.to_vec()).map(|time| time / bytes));
+    let instructions = measured.instructions.map(|count| count as f64 / bytes);
+    line(&[
+        plan.name.into(),
+        bytes.to_string(),
+        microseconds(&measured.library),
+        by_byte(&measured.library),
+        told(instructions),
+        microseconds(&measured.peer),
+        by_byte(&measured.peer),
+        microseconds(&measured.php),
+        told(measured.to_peer()),
+        told(measured.to_php()),
+    ])
+}
+
+/// Cells as wide as their column.
+fn line(cells: &[String; 10]) -> String {
+    let [name, cells @ ..] = cells;
+    let widths = [6, 11, 9, 13, 8, 9, 8, 7, 7];
+    let cells = cells.iter().zip(widths);
+    let cells: String = cells
+        .map(|(cell, width)| format!(" {cell:>width$} |"))
+        .collect();
+    format!("| {name:<31} |{cells}")
 }

@@ -1,5 +1,6 @@
 //! Measures the library beside a peer in Rust and, where it is installed, PHP, service by service and plan by plan, in
-//! one run: rounds by turns, the median of the times and of the ratios.
+//! one run: rounds by turns, the median of the times and of the ratios. Where valgrind is installed, the library's
+//! instructions are counted too.
 //!
 //! Before a plan is timed, library and peer are called with memory that holds the same, and must give the same answer
 //! and leave the same memory; PHP must write the same plan. What is timed is not cleared between the calls.
@@ -9,28 +10,35 @@
 use std::hint::black_box;
 use std::process::ExitCode;
 use std::time::{Duration, Instant};
+use tonschnecke_tests::bench::count::{self, Counter};
 use tonschnecke_tests::bench::goals::Goals;
-use tonschnecke_tests::bench::peer;
 use tonschnecke_tests::bench::php::Php;
 use tonschnecke_tests::bench::plans::{self, Plan};
-use tonschnecke_tests::bench::table::{self, Times};
+use tonschnecke_tests::bench::table::{self, Measured};
 use tonschnecke_tests::call::{Call, Lent, Service};
 use tonschnecke_tests::memory::Memory;
 use tonschnecke_tests::sides::{self, Side};
 
 const USAGE: &str = "usage: bench [--rounds N], at least 1";
 const DEFAULT_ROUNDS: usize = 15;
-/// Calls of a round go on for at least so long.
+/// A round goes on for at least so long.
 const ROUND: Duration = Duration::from_millis(10);
-/// Bytes of an output that every plan fits into.
-const LONGEST_PLAN: usize = 65_536;
+/// Calls between two looks at the clock take so long, else the looks would be part of a short call's time.
+const BATCH: Duration = Duration::from_micros(50);
 
 fn main() -> ExitCode {
-    let Some(rounds) = rounds(std::env::args().skip(1)) else {
+    let mut arguments = std::env::args().skip(1).peekable();
+    if arguments.next_if_eq(count::ONE_CALL).is_some() {
+        return match count::make_one_call(arguments) {
+            Some(()) => ExitCode::SUCCESS,
+            None => ExitCode::FAILURE,
+        };
+    }
+    let Some(rounds) = rounds(arguments) else {
         eprintln!("{USAGE}");
         return ExitCode::from(2);
     };
-    let mut php = started();
+    let (mut php, counter) = (php(), counter());
     let mut goals = Goals::default();
     for service in Service::ALL {
         println!("{}", table::head(service));
@@ -39,9 +47,13 @@ fn main() -> ExitCode {
             if let Some(php) = &mut php {
                 check_php(php, plan, service);
             }
-            let times = measure(plan, service, php.as_mut(), rounds);
-            println!("{}", table::row(plan, &times));
-            goals.note(service, plan.name, &times);
+            let mut measured = measure(plan, service, php.as_mut(), rounds);
+            let count = |counter: &Counter| counter.instructions(plan, service);
+            measured.instructions = counter
+                .as_ref()
+                .map(|counter| count(counter).expect("valgrind counts"));
+            println!("{}", table::row(plan, &measured));
+            goals.note(service, plan, &measured);
         }
     }
     println!("{}", goals.told());
@@ -57,7 +69,7 @@ fn rounds(mut arguments: impl Iterator<Item = String>) -> Option<usize> {
     (name == "--rounds" && rounds > 0 && arguments.next().is_none()).then_some(rounds)
 }
 
-fn started() -> Option<Php> {
+fn php() -> Option<Php> {
     match Php::start() {
         Ok(php) => {
             let version = &php.version;
@@ -71,18 +83,18 @@ fn started() -> Option<Php> {
     }
 }
 
-/// Room for every node that such a source can have, and for a pair's: none has fewer than two bytes.
-fn call(plan: &Plan, service: Service) -> Call {
-    let table_len = (plan.texts.source.len() / 2 + 2) * peer::WIDTH;
-    match service {
-        Service::Read => Call::read(table_len),
-        Service::Canonicalize => Call::canonicalize(table_len, LONGEST_PLAN),
-        Service::Insert => Call::insert(plan.place, table_len, LONGEST_PLAN),
+fn counter() -> Option<Counter> {
+    match Counter::start() {
+        Ok(counter) => Some(counter),
+        Err(error) => {
+            println!("instructions are not counted, valgrind does not start ({error}): apt-get install valgrind");
+            None
+        }
     }
 }
 
 fn check(plan: &Plan, service: Service) {
-    let call = call(plan, service);
+    let call = plan.call(service);
     let mut left = Memory::for_call(call);
     let mut right = left.clone();
     let texts = plan.texts.lent();
@@ -110,7 +122,7 @@ fn check_php(php: &mut Php, plan: &Plan, service: Service) {
         Service::Read => Service::Canonicalize,
         _ => service,
     };
-    let call = call(plan, writes);
+    let call = plan.call(writes);
     let mut memory = Memory::for_call(call);
     let reply = sides::library(plan.texts.lent(), call, &mut memory);
     let expected = &memory.output.lent()[..reply.length() as usize];
@@ -119,34 +131,42 @@ fn check_php(php: &mut Php, plan: &Plan, service: Service) {
     assert!(found == expected, "{service}, {name}: PHP writes another");
 }
 
-fn measure(plan: &Plan, service: Service, mut php: Option<&mut Php>, rounds: usize) -> Times {
-    let call = call(plan, service);
+fn measure(plan: &Plan, service: Service, mut php: Option<&mut Php>, rounds: usize) -> Measured {
+    let call = plan.call(service);
     let mut memory = Memory::for_call(call);
-    let mut times = Times::default();
+    let mut measured = Measured::default();
     for _ in 0..rounds {
         let texts = plan.texts.lent();
         let library = round(sides::library, texts, call, &mut memory);
-        times.library.push(library);
-        times
-            .peer
-            .push(round(sides::peer, texts, call, &mut memory));
+        let peer = round(sides::peer, texts, call, &mut memory);
+        measured.library.push(library);
+        measured.peer.push(peer);
         if let Some(php) = &mut php {
-            times.php.push(php.round(ROUND).expect("PHP answers"));
+            measured
+                .php
+                .push(php.round(BATCH, ROUND).expect("PHP answers"));
         }
     }
-    times
+    measured
 }
 
-/// Calls again and again until the time of a round is over; nanoseconds a call.
+/// Nanoseconds a call in the fastest of the batches that a round has time for: what else the machine does meanwhile
+/// slows some of them.
 fn round(side: Side, texts: Lent, call: Call, memory: &mut Memory) -> f64 {
-    let start = Instant::now();
-    let mut calls = 0;
-    loop {
-        black_box(side(black_box(texts), call, black_box(memory)));
-        calls += 1;
-        let spent = start.elapsed();
-        if spent >= ROUND {
-            return spent.as_nanos() as f64 / f64::from(calls);
+    let mut batch = |calls: u32| {
+        let start = Instant::now();
+        for _ in 0..calls {
+            black_box(side(black_box(texts), call, black_box(memory)));
         }
+        start.elapsed()
+    };
+    let (start, mut calls) = (Instant::now(), 1);
+    while batch(calls) < BATCH {
+        calls *= 2;
     }
+    let mut fastest = batch(calls);
+    while start.elapsed() < ROUND {
+        fastest = fastest.min(batch(calls));
+    }
+    fastest.as_nanos() as f64 / f64::from(calls)
 }
