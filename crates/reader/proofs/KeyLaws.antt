@@ -6,7 +6,7 @@ use mathlib.Core.Bool.{Bool, true, false, _||_}
 use mathlib.Core.List.{List, [], _∷_, _++_}
 use lib.Dec.{eqb}
 use lib.ListN.{length}
-use borrow.Author.Tests.{eqb-true, ltb-true, eq-eqb, ne-eqb}
+use borrow.Author.Tests.{eqb-true, ltb-true, lt-ltb, le-ltb, eq-eqb, ne-eqb}
 use Rattle.decimal.proofs.Decide.{T-of, T-true, and-left, and-right}
 use Rattle.format.specs.Kind.{Kind, tag}
 use Rattle.format.specs.Syntax.{Quoted, intKey, stringKey, Key}
@@ -23,7 +23,7 @@ use Rattle.key_filter.proofs.Hashing.{hash-held}
 use Rattle.key_filter.proofs.Marking.{grows-none, grows-on, entered-grows, entered-marked, all-grow, all-snoc, all-none, new-key}
 use Rattle.reader.specs.declared.seen.Seen.{Seen}
 use Rattle.reader.specs.Nodes.{wordAt}
-use Rattle.reader.specs.KeysSeen.{rank, keyWords, Chain, none, pair, Walk, KeyUnder, Under, Known, isMarked, above, rises, next, MarkedAll, Tested}
+use Rattle.reader.specs.KeysSeen.{rank, keyWords, keyOr, Chain, none, pair, Walk, KeyUnder, Under, Known, unmarkedFrom, above, rises, next, MarkedAll, Tested}
 
 -- ---- pairs in the table
 
@@ -98,64 +98,99 @@ module _ {s t : List ℕ} {first n : ℕ} {w : KeyWords} where
 
 -- ---- marking them
 
+pub or-in : (t : List ℕ) (i n : ℕ) (w : KeyWords) → i < n → keyOr t i n w ≡ keyWords t i
+unfolding keyOr
+or-in t i n w l = rw (keyOr, lt-ltb i n l)
+
+pub or-behind : (t : List ℕ) (i n : ℕ) (w : KeyWords) → n ≤ i → keyOr t i n w ≡ w
+unfolding keyOr
+or-behind t i n w l = rw (keyOr, le-ltb i n l)
+
 -- what is left to mark
 record Unmarked (s t m : List ℕ) (first i n : ℕ) (all : List Key) : Type 0 where
   keys : List Key
   chain : Chain s t i n keys
   rest : (m′ : List ℕ) → Grows m m′ → AllMarked m′ first keys → AllMarked m′ first all
 
-pub record Marking (s t m₀ m : List ℕ) (first n i : ℕ) : Type 0 where
+-- marking goes on at node i, from node b on
+pub record Marking (s t m₀ m : List ℕ) (first n b i : ℕ) : Type 0 where
   pub walk : Walk s t i n
   pub grows : Grows m₀ m
   pub long : length m ≡ length m₀
-  left : (ks : List Key) → Chain s t first n ks → Unmarked s t m first i n ks
+  left : (ks : List Key) → Chain s t b n ks → Unmarked s t m first i n ks
 
 none-left : {s t : List ℕ} {i n : ℕ} {ks : List Key} (m : List ℕ) (first : ℕ) → Chain s t i n ks → n ≤ i → AllMarked m first ks
 none-left m first none h = tt
 none-left m first (pair p e o q) h = let z = chain-le q in absurd (omega arith)
 
-module _ {s t m₀ : List ℕ} {first n : ℕ} where
-  pub marking-none : Walk s t first n → Marking s t m₀ m₀ first n first
-  marking-none a = record { walk = a; grows = grows-none m₀; long = refl; left = λ ks c. record { keys = ks; chain = c; rest = λ m′ g a. a } }
+walk-from : (s t : List ℕ) (first n : ℕ) (h : Seen) → Walk s t first n → Walk s t (unmarkedFrom h first n) n
+walk-from s t first n Seen.Nothing a = a
+walk-from s t first n (Seen.Upto top) a = a
+walk-from s t first n Seen.Marked a = record { keys = []; chain = none }
 
-  module _ {m : List ℕ} {i : ℕ} (l : Marking s t m₀ m first n i) where
-    module _ (lt : i < n) where
-      pub marking-on : i + 1 < wordAt t i (width + 5)
-      marking-on = stepped (l .walk .chain) lt .on
+pub marking-none : (s t m₀ : List ℕ) (first n b : ℕ) (h : Seen) → b ≡ unmarkedFrom h first n → Walk s t first n → Marking s t m₀ m₀ first n b b
+marking-none s t m₀ first n b h e a =
+    record {
+      walk = subst (λ (i : ℕ). Walk s t i n) (sym e) (walk-from s t first n h a);
+      grows = grows-none m₀;
+      long = refl;
+      left = λ ks c. record { keys = ks; chain = c; rest = λ m′ g a. a };
+    }
 
-      pub marking-in : wordAt t i (width + 5) ≤ n
-      marking-in = chain-le (stepped (l .walk .chain) lt .chain)
+module _ {s t m₀ m : List ℕ} {first n b i : ℕ} (l : Marking s t m₀ m first n b i) where
+  module _ (lt : i < n) where
+    pub marking-on : i + 1 < wordAt t i (width + 5)
+    marking-on = stepped (l .walk .chain) lt .on
 
-      pub marking-more : (m₁ : List ℕ) (hash : ℕ) (r : Bool) (w : KeyWords) → w ≡ keyWords t i → hash ≡ hashWords s first w → Entered m m₁ hash r → length m₁ ≡ length m
-          → Marking s t m₀ m₁ first n (wordAt t i (width + 5))
-      marking-more m₁ hash r w e q d o =
-          record {
-            walk = (let p = stepped (l .walk .chain) lt in record { keys = p .rest; chain = p .chain });
-            grows = grows-on (l .grows) (entered-grows d);
-            long = o ∙ l .long;
-            left = λ ks c.
-                let x = l .left ks c in
-                let p = stepped (x .chain) lt in
-                record {
-                  keys = p .rest;
-                  chain = p .chain;
-                  rest = λ m′ g a. x .rest m′ (grows-on (entered-grows d) g) (subst (AllMarked m′ first) (sym (p .is)) (g .keeps (hashKey first (p .key)) (own (p .key) (p .held)), a));
-                };
-          }
-        where
-          own : (k : Key) → Held s k (keyWords t i) → marked m₁ (hashKey first k) ≡ true
-          own k h = ap (marked m₁) (sym (q ∙ ap (hashWords s first) e ∙ hash-held s first (keyWords t i) k h)) ∙ entered-marked d
+    pub marking-in : wordAt t i (width + 5) ≤ n
+    marking-in = chain-le (stepped (l .walk .chain) lt .chain)
 
-    pub marking-end : n ≤ i → (h : Seen) → MarkedAll s t m₀ m first n h
-    marking-end le h = record { grows = l .grows; all = λ ks c u. let x = l .left ks c in x .rest m (grows-none m) (none-left m first (x .chain) le) }
+  -- the key at hand is entered
+  module _ (m₁ : List ℕ) (hash : ℕ) (r : Bool) (w w′ : KeyWords) (e : w ≡ keyOr t i n w′) (q : hash ≡ hashWords s first w) (d : Entered m m₁ hash r) where
+    module _ (v : KeyWords) (is : keyOr t i n w′ ≡ v) (k : Key) (held : Held s k v) where
+      hash-is : hash ≡ hashKey first k
+      hash-is = q ∙ ap (hashWords s first) (e ∙ is) ∙ hash-held s first v k held
 
-pub marked-before : (s t m : List ℕ) (first n : ℕ) (h : Seen) → isMarked h ≡ true → MarkedAll s t m m first n h
-marked-before s t m first n h e = record { grows = grows-none m; all = λ ks c u. go h e ks u }
-  where
-    go : (h : Seen) → isMarked h ≡ true → (ks : List Key) → Known h m first ks → AllMarked m first ks
-    go Seen.Nothing e ks u = absurd (let z : _≡_ {A = ℕ} 0 1 = cc in omega arith)
-    go (Seen.Upto top) e ks u = absurd (let z : _≡_ {A = ℕ} 0 1 = cc in omega arith)
-    go Seen.Marked e ks u = u
+      own : marked m₁ (hashKey first k) ≡ true
+      own = ap (marked m₁) (sym hash-is) ∙ entered-marked d
+
+    grown : Grows m₀ m₁
+    grown = grows-on (l .grows) (entered-grows d)
+
+    pub marking-more : i < n → length m₁ ≡ length m → Marking s t m₀ m₁ first n b (wordAt t i (width + 5))
+    marking-more lt o =
+        record {
+          walk = (let p = stepped (l .walk .chain) lt in record { keys = p .rest; chain = p .chain });
+          grows = grown;
+          long = o ∙ l .long;
+          left = λ ks c.
+              let x = l .left ks c in
+              let p = stepped (x .chain) lt in
+              record {
+                keys = p .rest;
+                chain = p .chain;
+                rest = λ m′ g a.
+                    let mine = g .keeps (hashKey first (p .key)) (own (keyWords t i) (or-in t i n w′ lt) (p .key) (p .held)) in
+                    x .rest m′ (grows-on (entered-grows d) g) (subst (AllMarked m′ first) (sym (p .is)) (mine, a));
+              };
+        }
+
+    pub marking-end : n ≤ i → (h : Seen) → b ≡ unmarkedFrom h first n → MarkedAll s t m₀ m₁ first n w′ h r
+    marking-end le h f =
+        record {
+          grows = grown;
+          all = λ k ks g c u. all-snoc m₁ first ks k (earlier h f m₁ (entered-grows d) ks c u) (own w′ (or-behind t i n w′ le) k g);
+          new = λ z k ks g c u.
+              new-key m first k ks (ap (marked m) (sym (hash-is w′ (or-behind t i n w′ le) k g)) ∙ sym (d .answer) ∙ z) (earlier h f m (grows-none m) ks c u);
+        }
+      where
+        from : (m′ : List ℕ) → Grows m m′ → (ks : List Key) → Chain s t b n ks → AllMarked m′ first ks
+        from m′ g ks c = let x = l .left ks c in x .rest m′ g (none-left m′ first (x .chain) le)
+
+        earlier : (h : Seen) → b ≡ unmarkedFrom h first n → (m′ : List ℕ) → Grows m m′ → (ks : List Key) → Chain s t first n ks → Known h m₀ first ks → AllMarked m′ first ks
+        earlier Seen.Nothing f m′ g ks c u = from m′ g ks (subst (λ (j : ℕ). Chain s t j n ks) (sym f) c)
+        earlier (Seen.Upto top) f m′ g ks c u = from m′ g ks (subst (λ (j : ℕ). Chain s t j n ks) (sym f) c)
+        earlier Seen.Marked f m′ g ks c u = all-grow m₀ m′ first ks (grows-on (l .grows) g) u
 
 -- ---- integers above all earlier ones
 
@@ -247,25 +282,15 @@ module _ (s t m : List ℕ) (first n : ℕ) (w : KeyWords) (h : Seen) (b : Bool)
         grows = grows-none m;
       }
 
-  module _ (down : b ≡ false) (m₁ : List ℕ) (a : MarkedAll s t m m₁ first n h) (m₂ : List ℕ) (hash : ℕ) (q : hash ≡ hashWords s first w) (r : Bool) (d : Entered m₁ m₂ hash r) where
-    hash-is : (k : Key) → Held s k w → hash ≡ hashKey first k
-    hash-is k g = q ∙ hash-held s first w k g
+  module _ (down : b ≡ false) (m₁ : List ℕ) (r : Bool) (a : MarkedAll s t m m₁ first n w h r) where
+    listed : (k : Key) (ks : List Key) → Held s k w → Chain s t first n ks → Known h m first ks → Known (next h w) m₁ first (ks ++ (k ∷ []))
+    listed k ks g c u = subst (λ (z : Seen). Known z m₁ first (ks ++ (k ∷ []))) (sym (next-marked h w (sym is ∙ down))) (a .all k ks g c u)
 
-    listed : (k : Key) (ks : List Key) → Held s k w → Chain s t first n ks → Known h m first ks → Known (next h w) m₂ first (ks ++ (k ∷ []))
-    listed k ks g c u =
-        subst (λ (z : Seen). Known z m₂ first (ks ++ (k ∷ []))) (sym (next-marked h w (sym is ∙ down)))
-        (all-snoc m₂ first ks k (all-grow m₁ m₂ first ks (entered-grows d) (a .all ks c u)) (ap (marked m₂) (sym (hash-is k g)) ∙ entered-marked d))
+    pub tested-new : r ≡ false → Tested s t m m₁ first n w h false
+    tested-new e = record { answer = λ k ks g c u. sym (a .new e k ks g c u); known = listed; grows = a .grows }
 
-    pub tested-new : r ≡ false → Tested s t m m₂ first n w h false
-    tested-new e =
-        record {
-          answer = λ k ks g c u. sym (new-key m₁ first k ks (ap (marked m₁) (sym (hash-is k g)) ∙ sym (d .answer) ∙ e) (a .all ks c u));
-          known = listed;
-          grows = grows-on (a .grows) (entered-grows d);
-        }
-
-    pub tested-walk : (f : Bool) → ((k : Key) (ks : List Key) → Held s k w → Chain s t first n ks → f ≡ hasKey k ks) → Tested s t m m₂ first n w h f
-    tested-walk f o = record { answer = λ k ks g c u. o k ks g c; known = listed; grows = grows-on (a .grows) (entered-grows d) }
+    pub tested-walk : (f : Bool) → ((k : Key) (ks : List Key) → Held s k w → Chain s t first n ks → f ≡ hasKey k ks) → Tested s t m m₁ first n w h f
+    tested-walk f o = record { answer = λ k ks g c u. o k ks g c; known = listed; grows = a .grows }
 
 pub known-grows : (h : Seen) (m m′ : List ℕ) (first : ℕ) (ks : List Key) → Grows m m′ → Known h m first ks → Known h m′ first ks
 known-grows Seen.Nothing m m′ first ks g u = u

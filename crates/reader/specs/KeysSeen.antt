@@ -22,6 +22,10 @@ rank w = (w + 9223372036854775808) % 2 ^ 64
 abbrev pub keyWords : List ℕ → (node : ℕ) → KeyWords
 keyWords t node = record { tag = wordAt t node 0; content = wordAt t node 2; size = wordAt t node 3 }
 
+-- those of node i, or these behind node n
+unfoldable pub keyOr : List ℕ → (i n : ℕ) → KeyWords → KeyWords
+keyOr t i n w = elim (ltb i n) [ true ↦ keyWords t i | false ↦ w ]
+
 -- from node i on pairs stand up to node n, with these keys; a pair ends where word 5 of its value says
 pub data Chain (s t : List ℕ) : ℕ → ℕ → List Key → Type 0 where
   none : {n : ℕ} → Chain s t n n []
@@ -47,10 +51,11 @@ Known Seen.Nothing m first ks = ks ≡ []
 Known (Seen.Upto top) m first ks = Under top ks
 Known Seen.Marked m first ks = AllMarked m first ks
 
-abbrev pub isMarked : Seen → Bool
-isMarked Seen.Nothing = false
-isMarked (Seen.Upto top) = false
-isMarked Seen.Marked = true
+-- where the pairs begin whose keys are not marked
+abbrev pub unmarkedFrom : Seen → (first node : ℕ) → ℕ
+unmarkedFrom Seen.Nothing first n = first
+unmarkedFrom (Seen.Upto top) first n = first
+unmarkedFrom Seen.Marked first n = n
 
 -- an integer above all before
 abbrev pub above : Seen → ℕ → Bool
@@ -65,10 +70,11 @@ rises h w = eqb (w .tag) (tag Kind.int) && above h (rank (w .content))
 unfoldable pub next : Seen → KeyWords → Seen
 next h w = elim (rises h w) [ true ↦ Seen.Upto (rank (w .content)) | false ↦ Seen.Marked ]
 
--- the keys of the pairs are marked
-pub record MarkedAll (s t m m′ : List ℕ) (first node : ℕ) (h : Seen) : Type 0 where
+-- the keys of the pairs are marked, and then one more, which is new if it was not
+pub record MarkedAll (s t m m′ : List ℕ) (first node : ℕ) (w : KeyWords) (h : Seen) (r : Bool) : Type 0 where
   pub grows : Grows m m′
-  pub all : (ks : List Key) → Chain s t first node ks → Known h m first ks → AllMarked m′ first ks
+  pub all : (k : Key) (ks : List Key) → Held s k w → Chain s t first node ks → Known h m first ks → AllMarked m′ first (ks ++ (k ∷ []))
+  pub new : r ≡ false → (k : Key) (ks : List Key) → Held s k w → Chain s t first node ks → Known h m first ks → hasKey k ks ≡ false
 
 -- the test of a key: whether it is among the pairs', and what is known with it
 pub record Tested (s t m m′ : List ℕ) (first node : ℕ) (w : KeyWords) (h : Seen) (r : Bool) : Type 0 where

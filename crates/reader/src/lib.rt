@@ -25,8 +25,10 @@ const SOURCE_LIMIT: usize = 65536;
 
 const DEPTH_LIMIT: usize = 64;
 
-// A plan of this length has a filter of its keys.
-const FILTER_FROM: usize = 512;
+// From these lengths on a plan has a filter of its keys, and a large one: to clear it costs little beside reading so long a plan.
+const FILTER_FROM: usize = 128;
+
+const LARGE_FILTER_FROM: usize = 4096;
 
 // What reading answers: the nodes written and the ordinals taken, or a refusal's number and position.
 pub enum Reading {
@@ -60,7 +62,7 @@ fn read_whole(source: &[u8], table: &mut [u64], filter: &mut [u64], capacity: us
 }
 
 // A short plan: its keys are few, so each is looked for among the pairs, and there is no filter.
-fn read_short(source: &[u8], table: &mut [u64], capacity: usize) -> Step
+fn read_unfiltered(source: &[u8], table: &mut [u64], capacity: usize) -> Step
     requires { ⌜ capacity * width ≤ length (now table) ⌝ }
     ensures { λ r. ⌜ Whole (now (source .entry)) (now (table .entry)) (now (table .exit)) capacity r ⌝ }
 {
@@ -68,7 +70,16 @@ fn read_short(source: &[u8], table: &mut [u64], capacity: usize) -> Step
     read_whole(source, table, &mut filter[..0], capacity)
 }
 
-fn read_long(source: &[u8], table: &mut [u64], capacity: usize) -> Step
+// A plan of some hundred keys at the most.
+fn read_filtered(source: &[u8], table: &mut [u64], capacity: usize) -> Step
+    requires { ⌜ capacity * width ≤ length (now table) ⌝ }
+    ensures { λ r. ⌜ Whole (now (source .entry)) (now (table .entry)) (now (table .exit)) capacity r ⌝ }
+{
+    let mut filter = [0u64; 128];
+    read_whole(source, table, &mut filter, capacity)
+}
+
+fn read_large(source: &[u8], table: &mut [u64], capacity: usize) -> Step
     requires { ⌜ capacity * width ≤ length (now table) ⌝ }
     ensures { λ r. ⌜ Whole (now (source .entry)) (now (table .entry)) (now (table .exit)) capacity r ⌝ }
 {
@@ -76,15 +87,18 @@ fn read_long(source: &[u8], table: &mut [u64], capacity: usize) -> Step
     read_whole(source, table, &mut filter, capacity)
 }
 
-// A plan with as large a filter as its length asks for.
+// A plan with as large a filter as its length asks for: a word at least for 32 bytes, so that a new key is seldom taken for marked.
 fn read_by_length(source: &[u8], table: &mut [u64], capacity: usize) -> Step
     requires { ⌜ capacity * width ≤ length (now table) ⌝ }
     ensures { λ r. ⌜ Whole (now (source .entry)) (now (table .entry)) (now (table .exit)) capacity r ⌝ }
 {
     if source.len() < FILTER_FROM {
-        return read_short(source, table, capacity);
+        return read_unfiltered(source, table, capacity);
     }
-    read_long(source, table, capacity)
+    if source.len() < LARGE_FILTER_FROM {
+        return read_filtered(source, table, capacity);
+    }
+    read_large(source, table, capacity)
 }
 
 // Reads a plan into the table; a refusal makes every word of it zero.

@@ -12,7 +12,7 @@ ghost use Rattle.format.specs.Syntax.{Key};
 ghost use Rattle.format.specs.Keys.{hasKey};
 ghost use Rattle.format.specs.Table.{width};
 ghost use Rattle.keys.specs.KeyWords.{Held};
-ghost use Rattle.reader.specs.KeysSeen.{rank, keyWords, Chain, Walk, MarkedAll, Tested, isMarked, rises, next};
+ghost use Rattle.reader.specs.KeysSeen.{rank, keyWords, keyOr, Chain, Walk, MarkedAll, Tested, unmarkedFrom, rises, next};
 
 // Word 0 of an integer key.
 const INT_TAG: u64 = Kind::INT as u64;
@@ -63,17 +63,6 @@ fn walk(source: &[u8], table: &[u64], first: usize, node: usize, key: KeyWords) 
     false
 }
 
-// Whether all keys so far are marked.
-fn is_marked(seen: Seen) -> bool
-    ensures { λ r. ⌜ r ≡ isMarked seen ⌝ }
-{
-    match seen {
-        Seen::Nothing => false,
-        Seen::Upto(_) => false,
-        Seen::Marked => true,
-    }
-}
-
 // Whether an integer key is above all before, where only such came.
 fn rises(seen: Seen, key: KeyWords) -> bool
     ensures { λ r. ⌜ r ≡ rises seen key ⌝ }
@@ -98,26 +87,50 @@ pub(crate) fn next(seen: Seen, key: KeyWords) -> Seen
     Seen::Marked
 }
 
-// Marks the keys of the pairs that stand from node `first` up to `node`, if they are not.
-fn mark_earlier(
+// Where the pairs begin whose keys are not marked, of those from node `first` up to `node`.
+fn unmarked_from(seen: Seen, first: usize, node: usize) -> usize
+    ensures { λ r. ⌜ r ≡ unmarkedFrom seen first node ⌝ }
+{
+    match seen {
+        Seen::Nothing => first,
+        Seen::Upto(_) => first,
+        Seen::Marked => node,
+    }
+}
+
+// The key of the pair at node `i`, or this one behind the last pair.
+fn key_or(table: &[u64], i: usize, node: usize, key: KeyWords) -> KeyWords
+    requires { ⌜ node * width ≤ length (now table) ⌝ }
+    ensures { λ r. ⌜ r ≡ keyOr (now (table .entry)) i node key ⌝ }
+{
+    if i < node {
+        return key_at(table, i);
+    }
+    key
+}
+
+// Marks the keys of the pairs from node `first` up to `node` that are not marked, and then this one: whether it was already. Keys are hashed in one place only,
+// so that the compiler keeps it in the loop over the pairs.
+fn mark_keys(
     source: &[u8],
     table: &[u64],
     filter: &mut [u64],
     first: usize,
     node: usize,
+    key: KeyWords,
     seen: Seen,
-)
+) -> bool
     requires { ⌜ node * width ≤ length (now table) ⌝ }
     requires { ⌜ Walk (now source) (now table) first node ⌝ }
-    ensures { λ _. ⌜ MarkedAll (now (source .entry)) (now (table .entry)) (now (filter .entry)) (now (filter .exit)) first node seen ⌝ }
+    ensures { λ r. ⌜ MarkedAll (now (source .entry)) (now (table .entry)) (now (filter .entry)) (now (filter .exit)) first node key seen r ⌝ }
 {
-    if is_marked(seen) {
-        return;
-    }
-    let mut i = first;
-    while i < node {
-        let hash = key_filter::hash(source, first, key_at(table, i));
-        key_filter::enter(filter, hash);
+    let mut i = unmarked_from(seen, first, node);
+    loop {
+        let hash = key_filter::hash(source, first, key_or(table, i, node, key));
+        let known = key_filter::enter(filter, hash);
+        if node <= i {
+            return known;
+        }
         i = table[i * WIDTH + PAIR_END] as usize;
     }
 }
@@ -142,9 +155,7 @@ pub(crate) fn key_seen(
     if filter.len() == 0 {
         return walk(source, table, first, node, key);
     }
-    mark_earlier(source, table, filter, first, node, seen);
-    let hash = key_filter::hash(source, first, key);
-    if !key_filter::enter(filter, hash) {
+    if !mark_keys(source, table, filter, first, node, key, seen) {
         return false;
     }
     walk(source, table, first, node, key)

@@ -1,7 +1,7 @@
 -- `reader::seen::key_seen` meets its contract. Assumes nothing.
-use borrow.Author.Needs.{needs}
 use borrow.Author.Tests.{not-true}
 use Rattle.reader.proofs.KeyLaws as keys
+use borrow.Author.Needs.{needs}
 use Rattle.reader.proofs.seen.key_seen.Statement.{statement}
 use Rattle.reader.proofs.seen.key_seen.Tie as tie
 
@@ -15,22 +15,22 @@ walk-requires : tie.Need-walk-requires
 walk-requires c κs = search needs
 
 returns-2 : tie.Need-returns-2
-returns-2 c = keys.tested-bare _ _ _ _ _ _ _ _ (c .before .before .before .rises .ensures) (c .before .before .if1 .left) (c .before .if2 .taken) _ (c .walk .ensures)
+returns-2 c =
+    let bare = c .before in
+    let down = bare .before in
+    keys.tested-bare _ _ _ _ _ _ _ _ (down .before .rises .ensures) (down .if1 .left) (bare .if2 .taken) _ (c .walk .ensures)
 
-mark-earlier-requires : tie.Need-mark-earlier-requires
-mark-earlier-requires c κs = search needs
-
-hash-requires : tie.Need-hash-requires
-hash-requires c κs = search needs
-
-enter-requires : tie.Need-enter-requires
-enter-requires c κs = search needs
+mark-keys-requires : tie.Need-mark-keys-requires
+mark-keys-requires c κs = search needs
 
 same-length : tie.Need-same-length
 same-length c = search needs
 
 returns-3 : tie.Need-returns-3
-returns-3 c = keys.tested-new _ _ _ _ _ _ _ _ (c .before .before .before .before .before .before .before .before .before .before .before .before .rises .ensures) (c .before .before .before .before .before .before .before .before .before .before .before .if1 .left) _ (c .before .before .before .before .before .before .before .before .mark-earlier .ensures) _ _ (c .before .before .before .before .before .hash .ensures) _ (c .before .before .before .enter .ensures) (not-true _ (c .if3 .taken))
+returns-3 c =
+    let all = c .before .before .before in
+    let down = all .before .before .before in
+    keys.tested-new _ _ _ _ _ _ _ _ (down .before .rises .ensures) (down .if1 .left) _ _ (all .mark-keys .ensures) (not-true _ (c .if3 .taken))
 
 walk-requires-2 : tie.Need-walk-requires-2
 walk-requires-2 c κs = search needs
@@ -39,7 +39,10 @@ same-length-2 : tie.Need-same-length-2
 same-length-2 c = search needs
 
 returns-4 : tie.Need-returns-4
-returns-4 c = keys.tested-walk _ _ _ _ _ _ _ _ (c .before .before .before .before .before .before .before .before .before .before .before .before .before .rises .ensures) (c .before .before .before .before .before .before .before .before .before .before .before .before .if1 .left) _ (c .before .before .before .before .before .before .before .before .before .mark-earlier .ensures) _ _ (c .before .before .before .before .before .before .hash .ensures) _ (c .before .before .before .before .enter .ensures) _ (c .walk2 .ensures)
+returns-4 c =
+    let all = c .before .before .before .before in
+    let down = all .before .before .before in
+    keys.tested-walk _ _ _ _ _ _ _ _ (down .before .rises .ensures) (down .if1 .left) _ _ (all .mark-keys .ensures) _ (c .walk2 .ensures)
 
 pub key-seen-spec : {M : Type 1} → statement M
 key-seen-spec =
@@ -49,9 +52,7 @@ key-seen-spec =
     returns
     walk-requires
     returns-2
-    mark-earlier-requires
-    hash-requires
-    enter-requires
+    mark-keys-requires
     same-length
     returns-3
     walk-requires-2
