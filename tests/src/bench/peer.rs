@@ -8,12 +8,14 @@ mod careful;
 mod digits;
 mod float;
 mod insert;
+mod integer;
 mod keys;
 mod quick;
 mod reader;
 mod room;
 mod set;
 mod splice;
+mod token;
 mod trace;
 mod words;
 

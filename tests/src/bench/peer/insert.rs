@@ -3,10 +3,10 @@
 
 use super::careful::Scan;
 use super::keys::Key;
-use super::quick::Token;
 use super::reader::{Cursor, Reader};
 use super::room::{self, Notes, Room};
 use super::splice::Splice;
+use super::token::Token;
 use super::trace::Trace;
 use super::words::run_end;
 use super::{answer, refused, Step, Words, DEPTH_LIMIT, SOURCE_LIMIT};

@@ -1,7 +1,7 @@
 //! A text put together from stretches of another one and what comes between them.
 
 use super::digits::Digits;
-use super::quick::Token;
+use super::token::Token;
 use super::Words;
 use std::ops::Range;
 
