@@ -5,7 +5,6 @@
 
 mod canonicalize;
 mod careful;
-mod digits;
 mod float;
 mod insert;
 mod integer;

@@ -5,7 +5,7 @@ use super::careful::Scan;
 use super::keys::Key;
 use super::reader::{Cursor, Reader};
 use super::room::{self, Notes, Room};
-use super::splice::Splice;
+use super::splice::{digits, Splice};
 use super::token::Token;
 use super::trace::Trace;
 use super::words::run_end;
@@ -159,9 +159,8 @@ impl Edit<'_> {
         if given + 1 + self.target.references.len() <= limit {
             return Ok(());
         }
-        let grown = |number: u64, old: Range<usize>| {
-            (number + 1).ilog10() as isize + 1 - old.len() as isize
-        };
+        let grown =
+            |number: u64, old: Range<usize>| digits(number + 1) as isize - old.len() as isize;
         let pairs = rows[self.target.place.array_node][4];
         let raised = references.filter(|&(node, _)| self.is_raised(&rows[node]));
         let raised = raised.map(|(node, start)| grown(rows[node][2], self.named(start)));
