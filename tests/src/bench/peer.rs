@@ -14,6 +14,7 @@ mod reader;
 mod room;
 mod set;
 mod splice;
+mod target;
 mod token;
 mod trace;
 mod words;
