@@ -46,11 +46,16 @@ impl Counter {
     }
 }
 
+/// So that memory is cleared and copied by plain instructions: `rep stos` would count once a byte, and costs less.
+const TUNABLES: &str =
+    "glibc.cpu.x86_rep_stosb_threshold=1000000:glibc.cpu.x86_rep_movsb_threshold=1000000";
+
 /// Without the environment, which moves the stack and so, by a few instructions, what clears or copies memory there.
 fn valgrind() -> Command {
     let mut valgrind = Command::new("valgrind");
     valgrind.env_clear();
     valgrind.envs(env::var_os("PATH").map(|path| ("PATH", path)));
+    valgrind.env("GLIBC_TUNABLES", TUNABLES);
     valgrind
 }
 

@@ -1,7 +1,7 @@
 //! The goals that a run is held to. A missed one is told and nothing more: no test rests on a time.
 
 use super::plans::{self, Plan};
-use super::table::{median, told, Measured};
+use super::table::{told, Measured};
 use crate::call::Service;
 
 /// What a plan's call may take at most.
@@ -54,7 +54,7 @@ impl Goals {
 }
 
 fn line(service: Service, plan: &Plan, measured: &Measured, limit: &Limit) -> String {
-    let time = median(measured.library.clone()).map(|time| time / 1000.0);
+    let time = measured.library.map(|time| time / 1000.0);
     let (most, found, unit) = match limit {
         OfPeer(most) => (most, measured.to_peer(), "of the peer's time"),
         OfPhp(most) => (most, measured.to_php(), "of PHP's time"),
@@ -69,7 +69,8 @@ fn line(service: Service, plan: &Plan, measured: &Measured, limit: &Limit) -> St
         Microseconds(_) => format!(", {} of the peer's time", told(measured.to_peer())),
         _ => String::new(),
     };
-    let peer = median(measured.peer.clone()).map(|time| time / plan.texts.source.len() as f64);
+    let bytes = plan.texts.source.len() as f64;
+    let peer = measured.peer.map(|time| time / bytes);
     format!(
         "| `{service}`: {} | {most} {unit} | {}{also} | {} | {verdict} |",
         plan.name,

@@ -5,15 +5,17 @@
 
 mod canonicalize;
 mod careful;
-mod digits;
 mod float;
 mod insert;
+mod integer;
 mod keys;
 mod quick;
 mod reader;
 mod room;
 mod set;
 mod splice;
+mod target;
+mod token;
 mod trace;
 mod words;
 

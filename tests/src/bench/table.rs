@@ -3,36 +3,29 @@
 use super::plans::Plan;
 use crate::call::Service;
 
-/// Nanoseconds a call, round by round; those with the same index were measured one after the other. PHP's are none
-/// where it is missing. Of the library also the instructions of a call, where they are counted.
+/// Nanoseconds a call, the fewest that a round found: what else the machine does only adds to them. PHP's are none where
+/// it is missing. Of the library also the instructions of a call, where they are counted.
 #[derive(Default)]
 pub struct Measured {
-    pub library: Vec<f64>,
-    pub peer: Vec<f64>,
-    pub php: Vec<f64>,
+    pub library: Option<f64>,
+    pub peer: Option<f64>,
+    pub php: Option<f64>,
     pub instructions: Option<u64>,
 }
 
 impl Measured {
     pub fn to_peer(&self) -> Option<f64> {
-        self.ratio_to(&self.peer)
+        Some(self.library? / self.peer?)
     }
 
     pub fn to_php(&self) -> Option<f64> {
-        self.ratio_to(&self.php)
-    }
-
-    /// The median of the rounds' own ratios: a machine that changes its speed between rounds moves it less than the
-    /// medians of the times.
-    fn ratio_to(&self, others: &[f64]) -> Option<f64> {
-        let both = self.library.iter().zip(others);
-        median(both.map(|(library, other)| library / other).collect())
+        Some(self.library? / self.php?)
     }
 }
 
-pub fn median(mut values: Vec<f64>) -> Option<f64> {
-    values.sort_by(f64::total_cmp);
-    values.get(values.len() / 2).copied()
+/// Takes in what a round found.
+pub fn lower(time: &mut Option<f64>, found: f64) {
+    *time = Some(time.map_or(found, |time| time.min(found)));
 }
 
 /// Three digits or more.
@@ -66,18 +59,18 @@ pub fn head(service: Service) -> String {
 
 pub fn row(plan: &Plan, measured: &Measured) -> String {
     let bytes = plan.texts.source.len() as f64;
-    let microseconds = |times: &[f64]| told(median(times.to_vec()).map(|time| time / 1000.0));
-    let by_byte = |times: &[f64]| told(median(times.to_vec()).map(|time| time / bytes));
+    let microseconds = |time: Option<f64>| told(time.map(|time| time / 1000.0));
+    let by_byte = |time: Option<f64>| told(time.map(|time| time / bytes));
     let instructions = measured.instructions.map(|count| count as f64 / bytes);
     line(&[
         plan.name.into(),
         bytes.to_string(),
-        microseconds(&measured.library),
-        by_byte(&measured.library),
+        microseconds(measured.library),
+        by_byte(measured.library),
         told(instructions),
-        microseconds(&measured.peer),
-        by_byte(&measured.peer),
-        microseconds(&measured.php),
+        microseconds(measured.peer),
+        by_byte(measured.peer),
+        microseconds(measured.php),
         told(measured.to_peer()),
         told(measured.to_php()),
     ])

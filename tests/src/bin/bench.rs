@@ -1,6 +1,6 @@
 //! Measures the library beside a peer in Rust and, where it is installed, PHP, service by service and plan by plan, in
-//! one run: rounds by turns, the median of the times and of the ratios. Where valgrind is installed, the library's
-//! instructions are counted too.
+//! one run: rounds by turns, the lowest time of each. Where valgrind is installed, the library's instructions are
+//! counted too.
 //!
 //! Before a plan is timed, library and peer are called with memory that holds the same, and must give the same answer
 //! and leave the same memory; PHP must write the same plan. What is timed is not cleared between the calls.
@@ -14,7 +14,7 @@ use tonschnecke_tests::bench::count::{self, Counter};
 use tonschnecke_tests::bench::goals::Goals;
 use tonschnecke_tests::bench::php::Php;
 use tonschnecke_tests::bench::plans::{self, Plan};
-use tonschnecke_tests::bench::table::{self, Measured};
+use tonschnecke_tests::bench::table::{self, lower, Measured};
 use tonschnecke_tests::call::{Call, Lent, Service};
 use tonschnecke_tests::memory::Memory;
 use tonschnecke_tests::sides::{self, Side};
@@ -139,12 +139,11 @@ fn measure(plan: &Plan, service: Service, mut php: Option<&mut Php>, rounds: usi
         let texts = plan.texts.lent();
         let library = round(sides::library, texts, call, &mut memory);
         let peer = round(sides::peer, texts, call, &mut memory);
-        measured.library.push(library);
-        measured.peer.push(peer);
+        lower(&mut measured.library, library);
+        lower(&mut measured.peer, peer);
         if let Some(php) = &mut php {
-            measured
-                .php
-                .push(php.round(BATCH, ROUND).expect("PHP answers"));
+            let php = php.round(BATCH, ROUND).expect("PHP answers");
+            lower(&mut measured.php, php);
         }
     }
     measured

@@ -1,6 +1,6 @@
 //! Tokens of any spelling, byte by byte, and what is at fault with them.
 
-use super::quick::{Head, Reference, Token};
+use super::token::{Head, Reference, Token};
 use super::trace::Trace;
 use super::{float, refused, Step};
 use std::ops::Range;

@@ -2,84 +2,16 @@
 //! from stretches of the source, the table moved apart where the pair goes in.
 
 use super::careful::Scan;
-use super::keys::Key;
-use super::quick::Token;
 use super::reader::{Cursor, Reader};
 use super::room::{self, Notes, Room};
-use super::splice::Splice;
-use super::trace::Trace;
+use super::splice::{digits, Splice};
+use super::target::Target;
+use super::token::Token;
 use super::words::run_end;
 use super::{answer, refused, Step, Words, DEPTH_LIMIT, SOURCE_LIMIT};
 use crate::call::{Lent, Place};
 use crate::library::Writing;
 use std::ops::Range;
-
-/// The place asked for, and what reading found out about it.
-struct Target<'a> {
-    source: &'a [u8],
-    place: Place,
-    key: Option<Key<'a>>,
-    has_key: bool,
-    /// The containers around the array and itself; those of the way to where reading is, before it is met.
-    path: [u16; DEPTH_LIMIT],
-    depth: usize,
-    /// Where its count stands.
-    count: Range<usize>,
-    /// Where the pair goes in, and what was read before.
-    gap: Option<Cursor>,
-    /// The nodes and positions of all.
-    references: Notes<'a>,
-}
-
-impl<'a> Target<'a> {
-    fn new(texts: Lent<'a>, place: Place, key: Option<Token>, references: Notes<'a>) -> Self {
-        Target {
-            source: texts.source,
-            place,
-            key: key.map(|key| key.key(texts.key)),
-            has_key: false,
-            path: [0; DEPTH_LIMIT],
-            depth: 0,
-            count: 0..0,
-            gap: None,
-            references,
-        }
-    }
-}
-
-impl Trace for Target<'_> {
-    fn reference(&mut self, node: usize, start: usize) {
-        self.references.push(node, start);
-    }
-
-    fn open(&mut self, container: usize, depth: usize, count: Range<usize>) {
-        if self.depth > 0 {
-            return;
-        }
-        self.path[depth - 1] = container as u16;
-        if container == self.place.array_node {
-            self.depth = depth;
-            self.count = count;
-        }
-    }
-
-    #[inline(always)]
-    fn key(&mut self, container: usize, index: usize, before: Cursor, key: &Token) {
-        if container != self.place.array_node {
-            return;
-        }
-        if index == self.place.pair_index {
-            self.gap = Some(before);
-        }
-        self.has_key |= self.key == Some(key.key(self.source));
-    }
-
-    fn close(&mut self, container: usize, before: Cursor) {
-        if container == self.place.array_node {
-            self.gap.get_or_insert(before);
-        }
-    }
-}
 
 pub fn insert(texts: Lent, place: Place, table: &mut [u64], out: &mut [u8]) -> Writing {
     let rows = table.as_chunks_mut().0;
@@ -128,20 +60,6 @@ fn alone(text: &[u8], tags: &[u8]) -> Option<Token> {
     (token.end == text.len()).then_some(token)
 }
 
-impl Target<'_> {
-    fn gap(&self, rows: &[Words]) -> Step<Cursor> {
-        match (rows.get(self.place.array_node), self.gap) {
-            (Some(&[tag, .., count, _]), Some(gap)) if tag == u64::from(b'a') => {
-                if self.place.pair_index as u64 > count {
-                    return refused(12, 0);
-                }
-                Ok(gap)
-            }
-            _ => refused(11, 0),
-        }
-    }
-}
-
 /// An insertion to which only the output may be too small.
 struct Edit<'a> {
     texts: Lent<'a>,
@@ -159,9 +77,8 @@ impl Edit<'_> {
         if given + 1 + self.target.references.len() <= limit {
             return Ok(());
         }
-        let grown = |number: u64, old: Range<usize>| {
-            (number + 1).ilog10() as isize + 1 - old.len() as isize
-        };
+        let grown =
+            |number: u64, old: Range<usize>| digits(number + 1) as isize - old.len() as isize;
         let pairs = rows[self.target.place.array_node][4];
         let raised = references.filter(|&(node, _)| self.is_raised(&rows[node]));
         let raised = raised.map(|(node, start)| grown(rows[node][2], self.named(start)));
@@ -185,7 +102,7 @@ impl Edit<'_> {
     /// The rows have two more than the plan given.
     fn write(&self, rows: &mut [Words], key: Token, value: Token, out: &mut [u8]) -> usize {
         let (array, gap) = (self.target.place.array_node, self.gap.nodes);
-        for &container in &self.target.path[..self.target.depth] {
+        for &container in self.target.around() {
             rows[usize::from(container)][5] += 2;
         }
         rows[array][4] += 1;

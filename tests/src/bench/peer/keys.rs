@@ -1,7 +1,8 @@
 //! The keys of one container, and whether one repeats an earlier one.
 
-use super::quick::{Guess, Token};
+use super::integer::Guess;
 use super::set::{front, number_hash, text_hash, Set};
+use super::token::Token;
 use super::Words;
 use std::iter;
 

@@ -3,12 +3,12 @@
 
 use super::careful::Scan;
 use super::keys::{Keys, Seen};
-use super::quick::{self, Head, Reference, Token};
 use super::room::Lazy;
 use super::set::Set;
+use super::token::{Head, Reference, Token};
 use super::trace::Trace;
 use super::words::load;
-use super::{refused, Step, Words, DEPTH_LIMIT, SOURCE_LIMIT};
+use super::{integer, quick, refused, Step, Words, DEPTH_LIMIT, SOURCE_LIMIT};
 
 /// What was read: bytes, nodes and ordinals.
 #[derive(Clone, Copy, Default)]
@@ -85,7 +85,7 @@ impl<'a, T: Trace> Reader<'a, T> {
         let word = load(self.source, here.at);
         // Apart from the others: most values are integers.
         if word as u16 == quick::INTEGER {
-            if let Some(token) = quick::integer(self.source, here.at, word) {
+            if let Some(token) = integer::counted(self.source, here.at, word) {
                 return self.put_value(here, &token);
             }
         }
@@ -199,7 +199,7 @@ impl<'a, T: Trace> Reader<'a, T> {
         let word = load(self.source, here.at);
         let token = match word as u16 {
             quick::INTEGER if container == b'a' => {
-                quick::integer_key(self.source, here.at, word, &mut keys.guess)
+                integer::guessed(self.source, here.at, word, &mut keys.guess)
             }
             quick::STRING => quick::string(self.source, here.at, word),
             _ => None,

@@ -1,7 +1,6 @@
 //! A text put together from stretches of another one and what comes between them.
 
-use super::digits::Digits;
-use super::quick::Token;
+use super::token::Token;
 use super::Words;
 use std::ops::Range;
 
@@ -47,7 +46,13 @@ impl<'s, 'o> Splice<'s, 'o> {
     /// Copies up to a numeral and has another number in its place.
     pub fn respell(&mut self, numeral: Range<usize>, number: u64) {
         self.skip(numeral);
-        self.put(Digits::of(number).text());
+        let count = digits(number);
+        let mut rest = number as u32;
+        for place in self.out[self.written..][..count].iter_mut().rev() {
+            *place = b'0' + (rest % 10) as u8;
+            rest /= 10;
+        }
+        self.written += count;
     }
 
     /// A key or value that stands here, as its node.
@@ -78,6 +83,12 @@ impl<'s, 'o> Splice<'s, 'o> {
     pub fn written(&self) -> usize {
         self.written
     }
+}
+
+/// The count of them in shortest form. Numbers are at most 65,537, and half a word is divided faster.
+pub fn digits(number: u64) -> usize {
+    let number = number as u32;
+    number.checked_ilog10().map_or(1, |log| log as usize + 1)
 }
 
 pub fn has_text(row: &Words) -> bool {

@@ -1,7 +1,7 @@
 //! What is wanted of a plan besides its table.
 
-use super::quick::Token;
 use super::reader::Cursor;
+use super::token::Token;
 use std::ops::Range;
 
 pub trait Trace {
