@@ -67,8 +67,8 @@ shortest-integer minus z n r (fronts.minus h i) = let p = no-zero z n r i in (si
 -- ---- the token that stands at an index
 
 -- N, b, d and the closing brace, in the order of their bytes: no number follows
-abbrev Plain : ℕ → Type 0
-Plain b = (b ≡ tag Kind.null) ⊎ ((b ≡ tag Kind.bool) ⊎ ((b ≡ tag Kind.float) ⊎ (b ≡ byte "}")))
+abbrev Unnumbered : ℕ → Type 0
+Unnumbered b = (b ≡ tag Kind.null) ⊎ ((b ≡ tag Kind.bool) ⊎ ((b ≡ tag Kind.float) ⊎ (b ≡ byte "}")))
 
 -- the bytes behind a tag and its colon
 pub front-of : (s : List ℕ) (at b : ℕ) (l : List ℕ) → drop at s ≡ b ∷ 58 ∷ l → ShortestFront (getD s (at + 2) 0) (getD s (at + 3) 0) → ShortestFront (getD l 0 0) (getD l 1 0)
@@ -77,9 +77,9 @@ front-of s at b l e f =
     (subst (λ (i : ℕ). ShortestFront i (getD s (at + 3) 0)) (sym (getD-drop at s 2 0) ∙ ap (λ (m : List ℕ). getD m 2 0) e) f)
 
 module _ (s : List ℕ) (at : ℕ) (x : Text) where
-  plain-text : Plain (getD s at 0) → shortestText s at x ≡ slice at (x .next) s
+  unnumbered-text : Unnumbered (getD s at 0) → shortestText s at x ≡ slice at (x .next) s
   unfolding shortestText
-  plain-text o = ⊎-elim (λ i. rw i) (λ o. ⊎-elim (λ i. rw i) (λ o. ⊎-elim (λ i. rw i) (λ i. rw i) o) o) o
+  unnumbered-text o = ⊎-elim (λ i. rw i) (λ o. ⊎-elim (λ i. rw i) (λ o. ⊎-elim (λ i. rw i) (λ i. rw i) o) o) o
 
   module _ (n : getD s at 0 ≡ tag Kind.object → ⊥) where
     same-opening : (c : Container) (w : Spelling) (k : ℕ) → Stands s at (opening (record { container = c; spelling = w }) k) x → ShortestFront (getD s (at + 2) 0) (getD s (at + 3) 0)
@@ -105,9 +105,9 @@ module _ (s : List ℕ) (at : ℕ) (x : Text) where
   inside-number : (b : ℕ) (w : Spelling) (k c : ℕ) (r : List ℕ) → drop at s ≡ b ∷ 58 ∷ writeNumber w k (c ∷ r) → at + 4 ≤ length s
   inside-number b w k c r e = omega (arith, length-drop at s, ap length e, number-length w k (c ∷ r), decimal-some k)
 
-  module _ (p : Plain (getD s at 0) → ⊥) (n : getD s at 0 ≡ tag Kind.object → ⊥) where
-    plain-not : (b : ℕ) (r : List ℕ) → drop at s ≡ b ∷ r → Plain b → ⊥
-    plain-not b r e q = p (subst Plain (sym (first-byte s at b r e)) q)
+  module _ (p : Unnumbered (getD s at 0) → ⊥) (n : getD s at 0 ≡ tag Kind.object → ⊥) where
+    never-unnumbered : (b : ℕ) (r : List ℕ) → drop at s ≡ b ∷ r → Unnumbered b → ⊥
+    never-unnumbered b r e q = p (subst Unnumbered (sym (first-byte s at b r e)) q)
 
     inside-opening : (c : Container) (w : Spelling) (k : ℕ) → Stands s at (opening (record { container = c; spelling = w }) k) x → at + 4 ≤ length s
     inside-opening array w k st = inside-number 97 w k 58 _ (st .written)
@@ -122,14 +122,14 @@ module _ (s : List ℕ) (at : ℕ) (x : Text) where
         signed minus = omega (arith, spelled-some (i .zeros) (i .magnitude), length-append (spelled (i .zeros) (i .magnitude)) (59 ∷ r))
 
     inside-token : (t : Token) → Stands s at t x → at + 4 ≤ length s
-    inside-token (scalar null) st = absurd (plain-not 78 _ (st .written) (inl refl))
-    inside-token (scalar (bool b)) st = absurd (plain-not 98 _ (st .written) (inr (inl refl)))
+    inside-token (scalar null) st = absurd (never-unnumbered 78 _ (st .written) (inl refl))
+    inside-token (scalar (bool b)) st = absurd (never-unnumbered 98 _ (st .written) (inr (inl refl)))
     inside-token (scalar (int i)) st = inside-int i _ (st .written)
-    inside-token (scalar (float t)) st = absurd (plain-not 100 _ (st .written) (inr (inr (inl refl))))
+    inside-token (scalar (float t)) st = absurd (never-unnumbered 100 _ (st .written) (inr (inr (inl refl))))
     inside-token (scalar (string q)) st = inside-number 115 (q .spelling) (length (q .text)) 58 _ (st .written)
     inside-token (reference r) st = inside-number _ (r .spelling) (r .named) 59 _ (st .written)
     inside-token (opening h k) st = inside-opening (h .container) (h .spelling) k st
-    inside-token closing st = absurd (plain-not 125 _ (st .written) (inr (inr (inr refl))))
+    inside-token closing st = absurd (never-unnumbered 125 _ (st .written) (inr (inr (inr refl))))
 
     pub number-inside : Found readToken (tokenTold at) s at x → at + 4 ≤ length s
     number-inside f = inside-token (f .what) (found-stands s at x f)
@@ -150,8 +150,8 @@ module _ {c : Change} (s : List ℕ) (at : ℕ) (x : Text) where
       never : (k : ℕ) → Change.Canonical ≡ Change.Raise k → ⊥
       never k j = let z : _≡_ {A = ℕ} 0 1 = cc in omega arith
 
-  pub plain-stays : c ≡ Change.Canonical → Plain (getD s at 0) → Stays c s at x true
-  plain-stays e p = does-stay (as-canonical s at x e ∙ plain-text s at x p)
+  pub unnumbered-stays : c ≡ Change.Canonical → Unnumbered (getD s at 0) → Stays c s at x true
+  unnumbered-stays e p = does-stay (as-canonical s at x e ∙ unnumbered-text s at x p)
 
   pub object-changes : c ≡ Change.Canonical → Stays c s at x false
   object-changes e = record { kept = λ i. absurd (differ (sym i)); changes = λ i. rewritten-whatever e }

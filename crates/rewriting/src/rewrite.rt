@@ -1,4 +1,4 @@
-// The tokens of a source in one loop, each changed in the same way.
+// The tokens of a source, each changed in the same way: stretches of them that stay are copied whole, the others written again.
 use crate::output::copy;
 use crate::shortest::numbered;
 use crate::shortest::shortest;
@@ -7,8 +7,8 @@ use crate::stretch::stretch;
 use scanner::Text;
 ghost use Rattle.rewriting.specs.Output.{Within, Puts};
 ghost use Rattle.rewriting.specs.Shortest.{Bounds};
-ghost use Rattle.rewriting.specs.Stretches.{Changes};
 ghost use Rattle.rewriting.specs.Rewriting.{Named, respelledText, rewrittenText};
+ghost use Rattle.rewriting.specs.Stretches.{Changes};
 
 // What becomes of a token: it is written in canonical spelling; or a reference to an ordinal from this one on names the next, in shortest form, and all else is copied.
 pub enum Change {

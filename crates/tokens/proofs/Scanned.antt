@@ -2,7 +2,7 @@
 use Prim.Native.Nat.{ℕ, _+_, _≤_, _<_}
 use native.Mathlib.Numerals.{add-one}
 use native.Mathlib.Omega.{arith}
-use mathlib.Core.Path.{_≡_, refl, sym, _∙_}
+use mathlib.Core.Path.{_≡_, refl, _∙_}
 use mathlib.Core.Bool.{true, false}
 use mathlib.Core.Logic.{_⊎_, inl, inr, ⊎-elim}
 use mathlib.Core.List.{List, _∷_}
@@ -12,11 +12,9 @@ use borrow.Author.Tests.{ne-eqb}
 use Rattle.format.specs.Bytes.{byte}
 use Rattle.format.specs.Kind.{Kind, tag}
 use Rattle.format.specs.Syntax.{objectRef, variableRef}
-use Rattle.format.specs.Read.{intText}
 use Rattle.scanner.specs.declared.Scan.{Scan}
-use Rattle.scanner.specs.Scans.{Scans, found, unfit, nullText, namedText, scalarBehind, headText, tell, nothingTold, valueTold, literalTold, scalarTold, headTold}
+use Rattle.scanner.specs.Scans.{Scans, found, unfit, namedText, scalarBehind, headText, tell, valueTold, scalarTold, headTold}
 use Rattle.scanner.proofs.Numbers.{scans-map}
-use Rattle.scanner.proofs.Scalars.{scalar-null, scalar-int}
 use Rattle.tokens.specs.Tokens.{scalar, closing, openingOf, referenceOf, tokenBehind, readToken, tokenTold}
 
 module _ (s : List ℕ) (at : ℕ) where
@@ -58,14 +56,3 @@ module _ (s : List ℕ) (at : ℕ) where
       unfolding tokenBehind
       token-scalar c a o p f =
           behind r (scans-map scalar (λ l s. rw (tokenBehind, ne-eqb b 125 c, ne-eqb b 97 a, ne-eqb b 79 o, ne-eqb b 114 (λ i. p (inr i)), ne-eqb b 82 (λ i. p (inl i)))) (λ x next. refl) f)
-
-      -- a tag that is none of the others
-      other : (n : ℕ) → b ≡ n → (n ≡ 125 → ⊥) → (n ≡ 97 → ⊥) → (n ≡ 79 → ⊥) → (n ≡ 82 → ⊥) → (n ≡ 114 → ⊥)
-          → Scans (scalarBehind b) (scalarTold (at + 1)) s (at + 1) r → Scans readToken (tokenTold at) s at r
-      other n i c a o p q f = token-scalar (λ e. c (sym i ∙ e)) (λ e. a (sym i ∙ e)) (λ e. o (sym i ∙ e)) (λ t. ⊎-elim (λ e. p (sym i ∙ e)) (λ e. q (sym i ∙ e)) t) f
-
-      pub token-null : b ≡ tag Kind.null → Scans nullText nothingTold s (at + 1) r → Scans readToken (tokenTold at) s at r
-      token-null i f = other 78 i (λ e. omega (arith, e)) (λ e. omega (arith, e)) (λ e. omega (arith, e)) (λ e. omega (arith, e)) (λ e. omega (arith, e)) (scalar-null s (at + 1) b r i f)
-
-      pub token-int : b ≡ tag Kind.int → Scans intText literalTold s (at + 1) r → Scans readToken (tokenTold at) s at r
-      token-int i f = other 105 i (λ e. omega (arith, e)) (λ e. omega (arith, e)) (λ e. omega (arith, e)) (λ e. omega (arith, e)) (λ e. omega (arith, e)) (scalar-int s (at + 1) b r i f)

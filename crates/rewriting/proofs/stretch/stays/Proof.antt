@@ -39,7 +39,7 @@ returns : tie.Need-returns
 returns c = staying.reference-changes _ _ _ (c .before .before .before .change .given .1) (c .before .match3 .keys1) (omega (arith, c .if1 .taken))
 
 returns-2 : tie.Need-returns-2
-returns-2 c = staying.plain-stays _ _ _ (c .before .enum-told .given .1) (c .match2 .keys1)
+returns-2 c = staying.unnumbered-stays _ _ _ (c .before .enum-told .given .1) (c .match2 .keys1)
 
 returns-3 : tie.Need-returns-3
 returns-3 c = staying.object-changes _ _ _ (c .before .enum-told .given .1)
