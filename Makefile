@@ -2,7 +2,7 @@
 # make install PREFIX=/usr/local DESTDIR=: header, archive, pkg-config file and command.  make uninstall: without them.
 # make test: the gate, what CI runs; its last line is 'N passed, 0 failed'.
 # make fuzz SECONDS=600 SEED=7: the library against the independent side for so long.  make bench: its times beside Rust code's and,
-# where php is installed, PHP's, and its instructions, where valgrind is; make bench ROUNDS=1 is a trial in half a minute.
+# where php is installed, PHP's, and its instructions, where valgrind is; make bench ROUNDS=1 is a trial in seconds.
 .PHONY: all prove archive command run test compare fuzz bench install uninstall clean
 
 BUILD := $(CURDIR)/build

@@ -11,11 +11,13 @@ enum Limit {
     OfPeer(f64),
     OfPhp(f64),
     Microseconds(f64),
+    /// For each byte of the plan.
+    Instructions(f64),
 }
 
-use Limit::{Microseconds, OfPeer, OfPhp};
+use Limit::{Instructions, Microseconds, OfPeer, OfPhp};
 
-const GOALS: [(Service, &str, Limit); 10] = [
+const GOALS: [(Service, &str, Limit); 11] = [
     (Service::Read, plans::LARGEST_LIST, OfPeer(1.9)),
     (Service::Read, plans::FLOATS, OfPeer(1.6)),
     (Service::Read, plans::YEAR, OfPeer(4.8)),
@@ -23,6 +25,8 @@ const GOALS: [(Service, &str, Limit); 10] = [
     (Service::Read, plans::RISING_STRINGS, OfPeer(2.0)),
     (Service::Read, plans::MIXED_STRINGS, OfPeer(2.0)),
     (Service::Read, plans::LONG_STRINGS, OfPeer(2.0)),
+    // A tenth above the 39.6 that it took before keys were hashed.
+    (Service::Read, plans::EIGHT_STRINGS, Instructions(43.5)),
     (
         Service::Canonicalize,
         plans::LARGEST_LIST,
@@ -54,11 +58,17 @@ impl Goals {
 }
 
 fn line(service: Service, plan: &Plan, measured: &Measured, limit: &Limit) -> String {
+    let bytes = plan.texts.source.len() as f64;
     let time = measured.library.map(|time| time / 1000.0);
     let (most, found, unit) = match limit {
         OfPeer(most) => (most, measured.to_peer(), "of the peer's time"),
         OfPhp(most) => (most, measured.to_php(), "of PHP's time"),
         Microseconds(most) => (most, time, "µs"),
+        Instructions(most) => (
+            most,
+            measured.instructions.map(|count| count as f64 / bytes),
+            "instructions a byte",
+        ),
     };
     let verdict = match found {
         Some(found) if found <= *most => "met",
@@ -69,7 +79,6 @@ fn line(service: Service, plan: &Plan, measured: &Measured, limit: &Limit) -> St
         Microseconds(_) => format!(", {} of the peer's time", told(measured.to_peer())),
         _ => String::new(),
     };
-    let bytes = plan.texts.source.len() as f64;
     let peer = measured.peer.map(|time| time / bytes);
     format!(
         "| `{service}`: {} | {most} {unit} | {}{also} | {} | {verdict} |",

@@ -23,7 +23,7 @@ pub const RISING_STRINGS: &str = "string keys, rising";
 pub const MIXED_STRINGS: &str = "string keys, mixed";
 pub const LONG_STRINGS: &str = "string keys of 64 bytes, mixed";
 pub const FALLING_INTEGERS: &str = "integer keys, falling";
-pub const COLLIDING: &str = "integer keys made to collide";
+pub const EIGHT_STRINGS: &str = "8 string keys, mixed";
 pub const DAYS: [&str; 2] = ["year, a day into January", "year, a day behind the last"];
 
 /// A plan and, for inserting, a pair and its place.
@@ -67,7 +67,7 @@ pub fn of(service: Service) -> Vec<Plan> {
             colliding(),
             plan("list of 8", array(8, LIST)),
             plan(
-                "8 string keys, mixed",
+                EIGHT_STRINGS,
                 array(8, |i, pairs| {
                     format!("s:3:\"d{:02}\";N;", scattered(i, pairs))
                 }),
@@ -186,7 +186,7 @@ fn array(pairs: usize, pair: impl Fn(usize, usize) -> String) -> Vec<u8> {
 
 fn colliding() -> Plan {
     let keys = collide::keys(SOURCE_LIMIT / SHORTEST_PAIR);
-    filled(COLLIDING, |i, pairs| {
+    filled("integer keys made to collide", |i, pairs| {
         // Falling, since keys that rise are never looked for.
         format!("i:{};N;", keys[pairs - 1 - i])
     })
