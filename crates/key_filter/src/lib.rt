@@ -2,11 +2,11 @@
 // that has one of its bits unset is new, and any other may be an earlier one or not.
 use format::kind::Kind;
 use keys::KeyWords;
-use keys::text_of;
 ghost use mathlib.Core.Path.{_≡_};
 ghost use Prim.Native.Nat.{_+_, _*_, _^_, _≤_, _<_};
-ghost use lib.ListN.{length, drop};
-ghost use Rattle.key_filter.specs.Hash.{mixed, spread, halfOf, restOf, mixedText, start, hashWords};
+ghost use lib.ListN.{length, take, drop};
+ghost use Rattle.keys.specs.KeyWords.{textOf};
+ghost use Rattle.key_filter.specs.Hash.{mixed, spread, halfOf, restOf, mixedText, start, textHash, hashWords};
 ghost use Rattle.key_filter.specs.Filter.{maskOf, slotOf, Entered};
 
 // Word 0 of an integer key.
@@ -42,48 +42,50 @@ fn half(a: u8, b: u8, c: u8, d: u8) -> u64
 }
 
 // Those from an index on; the compiler loads them at once.
-fn half_at(text: &[u8], at: usize) -> u64
-    requires { ⌜ at + 4 ≤ length (now text) ⌝ }
-    ensures { λ r. ⌜ (r ≡ halfOf (drop at (now (text .entry)))) × (r < 2 ^ 32) ⌝ }
+fn half_at(source: &[u8], at: usize) -> u64
+    requires { ⌜ at + 4 ≤ length (now source) ⌝ }
+    ensures { λ r. ⌜ (r ≡ halfOf (drop at (now (source .entry)))) × (r < 2 ^ 32) ⌝ }
 {
-    half(text[at], text[at + 1], text[at + 2], text[at + 3])
+    half(source[at], source[at + 1], source[at + 2], source[at + 3])
 }
 
 // Two halves as one word.
-fn halves_at(text: &[u8], low: usize, high: usize) -> u64
-    requires { ⌜ (low + 4 ≤ length (now text)) × (high + 4 ≤ length (now text)) ⌝ }
-    ensures { λ r. ⌜ r ≡ halfOf (drop low (now (text .entry))) + halfOf (drop high (now (text .entry))) * 2 ^ 32 ⌝ }
+fn halves_at(source: &[u8], low: usize, high: usize) -> u64
+    requires { ⌜ (low + 4 ≤ length (now source)) × (high + 4 ≤ length (now source)) ⌝ }
+    ensures { λ r. ⌜ r ≡ halfOf (drop low (now (source .entry))) + halfOf (drop high (now (source .entry))) * 2 ^ 32 ⌝ }
 {
-    half_at(text, low) + half_at(text, high) * 4294967296
+    half_at(source, low) + half_at(source, high) * 4294967296
 }
 
-// The end of a text as one word: two halves that may overlap; of fewer than four bytes the first, the middle and the last.
-fn rest_at(text: &[u8], at: usize) -> u64
-    requires { ⌜ at < length (now text) ⌝ }
-    ensures { λ r. ⌜ r ≡ restOf (drop at (now (text .entry))) ⌝ }
+// So many bytes from an index on as one word: two halves that may overlap; of fewer than four bytes the first, the middle and the last.
+fn rest_at(source: &[u8], at: usize, count: usize) -> u64
+    requires { ⌜ (at + count ≤ length (now source)) × (0 < count) ⌝ }
+    ensures { λ r. ⌜ r ≡ restOf (take count (drop at (now (source .entry)))) ⌝ }
 {
-    let end = text.len();
-    let count = end - at;
+    let end = at + count;
     if 4 <= count {
-        return halves_at(text, at, end - 4);
+        return halves_at(source, at, end - 4);
     }
-    half(text[at], text[at + count / 2], text[end - 1], 0)
+    half(source[at], source[at + count / 2], source[end - 1], 0)
 }
 
 // A text's words, mixed in one by one.
-fn mixed_text(text: &[u8], start: u64) -> u64
-    ensures { λ r. ⌜ r ≡ mixedText start (now (text .entry)) ⌝ }
+fn mixed_text(source: &[u8], offset: usize, size: usize, start: u64) -> u64
+    requires { ⌜ offset + size ≤ length (now source) ⌝ }
+    ensures { λ r. ⌜ r ≡ mixedText start (take size (drop offset (now (source .entry)))) ⌝ }
 {
     let mut hash = start;
-    let mut at = 0;
-    while 8 <= text.len() - at {
-        hash = mixed(hash, halves_at(text, at, at + 4));
+    let mut at = offset;
+    let mut left = size;
+    while 8 <= left {
+        hash = mixed(hash, halves_at(source, at, at + 4));
         at += 8;
+        left -= 8;
     }
-    if at == text.len() {
+    if left == 0 {
         return hash;
     }
-    mixed(hash, rest_at(text, at))
+    mixed(hash, rest_at(source, at, left))
 }
 
 // What the hash of a key begins with: its container, and the length of a string.
@@ -93,6 +95,19 @@ fn start(holder: usize, size: usize) -> u64
     ((holder as u64 % 4294967296) * HOLDER_FACTOR) ^ ((size as u64 % 65536) * 281474976710656)
 }
 
+// The hash of a string; one that does not stand in the source counts as empty. Its bytes are taken from the source: a slice of them would cost a check more.
+fn text_hash(source: &[u8], holder: usize, offset: usize, size: usize) -> u64
+    ensures { λ r. ⌜ r ≡ textHash holder (textOf (now (source .entry)) offset size) ⌝ }
+{
+    if source.len() < offset {
+        return spread(start(holder, 0));
+    }
+    if source.len() - offset < size {
+        return spread(start(holder, 0));
+    }
+    spread(mixed_text(source, offset, size, start(holder, size)))
+}
+
 // The hash of a key of the container whose first key stands at node `holder`.
 pub fn hash(source: &[u8], holder: usize, key: KeyWords) -> u64
     ensures { λ r. ⌜ r ≡ hashWords (now (source .entry)) holder key ⌝ }
@@ -100,8 +115,7 @@ pub fn hash(source: &[u8], holder: usize, key: KeyWords) -> u64
     if key.tag == INT_TAG {
         return spread(mixed(start(holder, 0), key.content));
     }
-    let text = text_of(source, key.content, key.size);
-    spread(mixed_text(text, start(holder, text.len())))
+    text_hash(source, holder, key.content as usize, key.size as usize)
 }
 
 // The bits of a hash in its word.

@@ -32,7 +32,7 @@ half-requires c κs = search needs
 returns : tie.Need-returns
 returns c =
     let start = c .before .before .before .before .before .before in
-    (c .half .ensures .0 ∙ sym (hashing.half-is (start .args .text .now) (start .args .at)), c .half .ensures .1)
+    (c .half .ensures .0 ∙ sym (hashing.half-is (start .args .source .now) (start .args .at)), c .half .ensures .1)
 
 pub half-at-spec : {M : Type 1} → statement M
 half-at-spec =

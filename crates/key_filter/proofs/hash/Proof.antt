@@ -1,7 +1,7 @@
 -- `key_filter::hash` meets its contract. Assumes nothing.
 use mathlib.Core.Path.{sym, ap, _∙_}
 use Prim.Native.Nat.{ℕ}
-use Rattle.key_filter.specs.Hash.{mixed, spread, mixedText, start, intHash, textHash}
+use Rattle.key_filter.specs.Hash.{mixed, spread, intHash}
 use Rattle.key_filter.proofs.Hashing as hashing
 use borrow.Author.Needs.{needs}
 use Rattle.key_filter.proofs.hash.Statement.{statement}
@@ -26,39 +26,13 @@ returns c =
     ∙ ap spread (mix .mixed .ensures ∙ ap (λ (h : ℕ). mixed h (key .content)) (begin .start .ensures))
     ∙ sym (hashing.words-int _ _ _ (begin .before .if1 .taken))
 
-text-of-requires : tie.Need-text-of-requires
-text-of-requires c κs = search needs
-
-start-requires-2 : tie.Need-start-requires-2
-start-requires-2 c κs = search needs
-
-mixed-text-requires : tie.Need-mixed-text-requires
-mixed-text-requires c κs = search needs
-
-spread-requires-2 : tie.Need-spread-requires-2
-spread-requires-2 c κs = search needs
+text-hash-requires : tie.Need-text-hash-requires
+text-hash-requires c κs = search needs
 
 returns-2 : tie.Need-returns-2
-unfolding textHash
-returns-2 c =
-    let mix = c .before in
-    let begin = mix .before in
-    let text = begin .before in
-    c .spread2 .ensures
-    ∙ ap spread (mix .mixed-text .ensures ∙ ap (λ (h : ℕ). mixedText h (text .text-of .result .now)) (begin .start2 .ensures))
-    ∙ ap (textHash _) (text .text-of .ensures)
-    ∙ sym (hashing.words-text _ _ _ (text .before .if1 .left))
+returns-2 c = c .text-hash .ensures ∙ sym (hashing.words-text _ _ _ (c .before .if1 .left))
 
 pub hash-spec : {M : Type 1} → statement M
 hash-spec =
     tie.close
-    (tie.spec
-    start-requires
-    mixed-requires
-    spread-requires
-    returns
-    text-of-requires
-    start-requires-2
-    mixed-text-requires
-    spread-requires-2
-    returns-2)
+    (tie.spec start-requires mixed-requires spread-requires returns text-hash-requires returns-2)

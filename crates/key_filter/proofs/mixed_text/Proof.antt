@@ -1,25 +1,22 @@
 -- `key_filter::mixed_text` meets its contract. Assumes nothing.
-use Prim.Native.Nat.{_-_, _≤_}
+use Prim.Native.Nat.{_+_}
 use native.Mathlib.Omega.{arith}
 use mathlib.Core.Path.{_≡_, refl}
 use borrow.Author.Needs.{needs}
-use lib.ListN.{length, drop}
+use lib.ListN.{take, drop}
 use Rattle.key_filter.specs.Hash.{mixedText}
 use Rattle.key_filter.proofs.Hashing as hashing
 use Rattle.key_filter.proofs.mixed_text.Statement.{statement}
 use Rattle.key_filter.proofs.mixed_text.Tie as tie
 
 abbrev Inv-loop : tie.InvT-loop
-Inv-loop text start hash₀ at₀ hash at = (at ≤ length text) × (mixedText hash (drop at text) ≡ mixedText start text)
+Inv-loop source offset size start hash₀ at₀ left₀ hash at left = (at + left ≡ offset + size) × (mixedText hash (take left (drop at source)) ≡ mixedText start (take size (drop offset source)))
 
 abbrev μ-loop : tie.MeasureT-loop
-μ-loop text start hash₀ at₀ hash at = length text - at
+μ-loop source offset size start hash₀ at₀ left₀ hash at left = left
 
 loop-holds : tie.Need-loop-holds Inv-loop μ-loop
-loop-holds c = (omega arith, refl)
-
-sub-loop : tie.Need-sub-loop Inv-loop μ-loop
-sub-loop c = omega arith
+loop-holds c = (refl, refl)
 
 add-halves-at : tie.Need-add-halves-at Inv-loop μ-loop
 add-halves-at c = omega arith
@@ -41,12 +38,14 @@ loop-again c =
     let halves = c .before in
     let test = halves .before in
     let loop = test .before .loop in
-    (omega arith, hashing.words-more (test .before .before .before .args .text .now) _ _ (loop .at) (loop .inv .1) _ _ (test .loop-test .taken) (halves .halves-at .ensures) (c .mixed .ensures))
+    let source = test .before .before .before .args .source .now in
+    (omega arith, hashing.words-more source _ _ (loop .at) (loop .left) _ (omega (arith, loop .inv .0)) (loop .inv .1) _ _ (test .loop-test .taken) (halves .halves-at .ensures) (c .mixed .ensures))
 
 returns : tie.Need-returns Inv-loop μ-loop
 returns c =
     let loop = c .before .before .loop in
-    hashing.words-end (c .before .before .before .before .args .text .now) _ _ (loop .at) (loop .inv .1) (c .if1 .taken)
+    let source = c .before .before .before .before .args .source .now in
+    hashing.words-end source _ _ (loop .at) (loop .left) _ (omega (arith, loop .inv .0)) (loop .inv .1) (c .if1 .taken)
 
 rest-at-requires : tie.Need-rest-at-requires Inv-loop μ-loop
 rest-at-requires c κs = omega arith
@@ -56,9 +55,11 @@ mixed-requires-2 c κs = search needs
 
 returns-2 : tie.Need-returns-2 Inv-loop μ-loop
 returns-2 c =
-    let test = c .before .before .before in
+    let some = c .before .before in
+    let test = some .before in
     let loop = test .before .loop in
-    hashing.words-last (test .before .before .before .args .text .now) _ _ (loop .at) (loop .inv .1) _ _ (test .loop-test .left) (omega (arith, loop .inv .0, c .before .before .if1 .left)) (c .before .rest-at .ensures) (c .mixed2 .ensures)
+    let source = test .before .before .before .args .source .now in
+    hashing.words-last source _ _ (loop .at) (loop .left) _ (omega (arith, loop .inv .0)) (loop .inv .1) _ _ (test .loop-test .left) (omega (arith, some .if1 .left)) (c .before .rest-at .ensures) (c .mixed2 .ensures)
 
 pub mixed-text-spec : {M : Type 1} → statement M
 mixed-text-spec =
@@ -67,7 +68,6 @@ mixed-text-spec =
     Inv-loop
     μ-loop
     loop-holds
-    sub-loop
     add-halves-at
     halves-at-requires
     mixed-requires

@@ -1,12 +1,12 @@
 -- `key_filter::rest_at` meets its contract. Assumes nothing.
-use mathlib.Core.Path.{refl, sym, _∙_}
+use mathlib.Core.Path.{sym, _∙_}
 use Rattle.key_filter.proofs.Hashing as hashing
 use borrow.Author.Needs.{needs}
 use Rattle.key_filter.proofs.rest_at.Statement.{statement}
 use Rattle.key_filter.proofs.rest_at.Tie as tie
 
-sub-count : tie.Need-sub-count
-sub-count c = search needs
+add-end : tie.Need-add-end
+add-end c = search needs
 
 sub-halves-at : tie.Need-sub-halves-at
 sub-halves-at c = search needs
@@ -17,7 +17,8 @@ halves-at-requires c κs = search needs
 returns : tie.Need-returns
 returns c =
     let start = c .before .before .before in
-    c .halves-at .ensures ∙ sym (hashing.rest-long (start .args .text .now) (start .args .at) _ refl (start .pre) (c .before .if1 .taken))
+    let at = start .args in
+    c .halves-at .ensures ∙ sym (hashing.rest-long (at .source .now) (at .at) (at .count) (start .pre .0) (c .before .if1 .taken))
 
 shared-slice-read-half : tie.Need-shared-slice-read-half
 shared-slice-read-half c = search needs
@@ -41,13 +42,14 @@ returns-2 : tie.Need-returns-2
 returns-2 c =
     let test = c .before .before .before .before in
     let start = test .before .before in
-    c .half .ensures .0 ∙ sym (hashing.rest-short (start .args .text .now) (start .args .at) _ refl (start .pre) (test .if1 .left))
+    let at = start .args in
+    c .half .ensures .0 ∙ sym (hashing.rest-short (at .source .now) (at .at) (at .count) (start .pre .0) (test .if1 .left) (start .pre .1))
 
 pub rest-at-spec : {M : Type 1} → statement M
 rest-at-spec =
     tie.close
     (tie.spec
-    sub-count
+    add-end
     sub-halves-at
     halves-at-requires
     returns
