@@ -5,6 +5,7 @@
 # where php is installed, PHP's, and its instructions, where valgrind is; make bench ROUNDS=1 is a trial in seconds.
 .PHONY: all prove archive command run test compare fuzz bench install uninstall clean
 
+SHELL := /bin/bash
 BUILD := $(CURDIR)/build
 CARGO := CARGO_TARGET_DIR=$(BUILD)/cargo TONSCHNECKE_LIB_DIR=$(BUILD) cargo
 # one more than the cores: a prover waits now and then; a small crate's edits take an eighth less time so
@@ -71,10 +72,13 @@ fuzz: archive
 bench: archive
 	$(CARGO) run --quiet --profile measure --manifest-path tests/Cargo.toml --bin bench $(if $(ROUNDS),-- --rounds $(ROUNDS))
 
-# rt ci comes last: it starts from nothing, and its last line is the verdict
-test: compare
+# rt ci starts from nothing; what it proved is not proved again for the tests, and its last line, the verdict, is printed last
+test:
 	rt fmt --check
-	RT_JOBS=$(JOBS) rt ci
+	mkdir -p $(BUILD)
+	set -o pipefail; RT_JOBS=$(JOBS) rt ci | tee $(BUILD)/ci.log | sed '$$d' || { tail -n 1 $(BUILD)/ci.log; exit 1; }
+	$(MAKE) --no-print-directory compare
+	tail -n 1 $(BUILD)/ci.log
 
 install: $(BUILD)/libtonschnecke.a $(BUILD)/tonschnecke
 	install -d $(foreach file,$(INSTALLED),"$(DESTDIR)$(PREFIX)/$(dir $(file))")
