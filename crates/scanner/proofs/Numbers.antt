@@ -4,17 +4,17 @@ use native.Mathlib.Omega.{arith}
 use mathlib.Core.Path.{_≡_, refl, sym, ap, ap₂, _∙_, subst}
 use mathlib.Core.Logic.{⊎-elim}
 use mathlib.Core.Bool.{Bool, true, false, _&&_}
-use mathlib.Core.List.{List, []}
+use mathlib.Core.List.{List, [], _∷_}
 use lib.Dec.{eqb, lit<}
 use lib.ListN.{length, drop, length-drop, length-append, drop-of-length-le}
 use lib.Seq.{drop-cons, drop-drop, drop-append-seam}
-use borrow.Author.Tests.{le-leb, lt-leb, lt-ltb, le-ltb}
-use Rattle.decimal.specs.Digits.{digitsOf, afterDigits, value, decimal}
+use borrow.Author.Tests.{ne-eqb, le-leb, lt-leb, lt-ltb, le-ltb}
+use Rattle.decimal.specs.Digits.{isDigit, digitsOf, afterDigits, value, decimal}
 use Rattle.decimal.specs.Complement.{pattern}
 use Rattle.decimal.specs.Promise.{RunAt}
 use Rattle.decimal.specs.declared.Run.{Run}
-use Rattle.decimal.proofs.Decide.{Order, below, above, order}
-use Rattle.decimal.proofs.Numerals.{digits-split}
+use Rattle.decimal.proofs.Decide.{Test, passed, failed, test, T-of, Order, below, above, order}
+use Rattle.decimal.proofs.Numerals.{digit-low, digits-split}
 use Rattle.format.specs.Bytes.{byte, bytes}
 use Rattle.format.specs.Syntax.{Sign, unsigned, plus, minus, Literal, Spelling}
 use Rattle.format.specs.Keys.{integer}
@@ -35,6 +35,9 @@ use Rattle.bytes_at.proofs.Runs.{run-rest, run-short}
 
 -- ---- answers
 
+pub not-text : {x : Text} {c : ℕ} → Scan.Not c ≡ Scan.Is x → ⊥
+not-text e = let z : _≡_ {A = ℕ} 0 1 = cc in omega arith
+
 -- which of the two it is, where the code knows
 module _ {A : Type 0} {read : Reader A} {told : Told A} {s : List ℕ} {at : ℕ} where
   pub found-of : {r : Scan} {t : Text} → Scans read told s at r → r ≡ Scan.Is t → Found read told s at t
@@ -42,16 +45,10 @@ module _ {A : Type 0} {read : Reader A} {told : Told A} {s : List ℕ} {at : ℕ
     where
       is-same : {t u : Text} → Scan.Is t ≡ Scan.Is u → t ≡ u
       is-same e = cc
-  found-of (unfit c f) e = absurd (is-not e)
-    where
-      is-not : {t : Text} {c : ℕ} → Scan.Not c ≡ Scan.Is t → ⊥
-      is-not e = let z : _≡_ {A = ℕ} 0 1 = cc in omega arith
+  found-of (unfit c f) e = absurd (not-text e)
 
   pub unfit-of : {r : Scan} {c : ℕ} → Scans read told s at r → r ≡ Scan.Not c → (l : ℕ) → read l (drop at s) ≡ refused c l
-  unfit-of (found t f) e l = absurd (is-not e)
-    where
-      is-not : {t : Text} {c : ℕ} → Scan.Is t ≡ Scan.Not c → ⊥
-      is-not e = let z : _≡_ {A = ℕ} 0 1 = cc in omega arith
+  unfit-of (found t f) e l = absurd (not-text (sym e))
   unfit-of (unfit c f) e l = f l ∙ ap (λ (c : ℕ). refused c l) (not-same e)
     where
       not-same : {a b : ℕ} → Scan.Not a ≡ Scan.Not b → a ≡ b
@@ -152,6 +149,35 @@ module _ (s : List ℕ) (at top : ℕ) (r : Run) (h : RunAt s at (top + 1) r) wh
           inside = omega (arith, run-short s at (top + 1) r h, h .next, some);
         }
 
+-- ---- signs
+
+pub not-plus : (b : ℕ) → isDigit b ≡ true → eqb 43 b ≡ false
+not-plus b t = ne-eqb 43 b (λ e. omega (arith, digit-low b (T-of t), e))
+
+pub not-minus : (b : ℕ) → isDigit b ≡ true → eqb 45 b ≡ false
+not-minus b t = ne-eqb 45 b (λ e. omega (arith, digit-low b (T-of t), e))
+
+-- what begins with digits has no sign
+pub digits-unsigned : (t : List ℕ) → 0 < length (digitsOf t) → signOf t ≡ (unsigned, t)
+digits-unsigned [] h = absurd (omega (arith, h))
+digits-unsigned (b ∷ t) h = go (test (isDigit b)) h
+  where
+    go : Test (isDigit b) → 0 < length (digitsOf (b ∷ t)) → signOf (b ∷ t) ≡ (unsigned, b ∷ t)
+    go (passed e) h = rw (signOf, not-plus b e, not-minus b e)
+    go (failed e) h = absurd (omega (arith, rw (e, digitsOf) at h))
+
+-- what follows a sign begins with digits
+some-digits : (top : ℕ) (t : List ℕ) (q : (ℕ × ℕ) × List ℕ) → signedText top 0 t ≡ ok q → 0 < length (digitsOf t)
+unfolding signedText digits
+some-digits top t q e = go (order 0 (length (digitsOf t)))
+  where
+    none : length (digitsOf t) ≤ 0 → signedText top 0 t ≡ refused 2 0
+    none l = rw (signedText, digits, le-ltb 0 (length (digitsOf t)) l)
+
+    go : Order 0 (length (digitsOf t)) → 0 < length (digitsOf t)
+    go (below l) = l
+    go (above l) = absurd (not-both (sym (none l) ∙ e))
+
 -- ---- integers
 
 module _ (s : List ℕ) (at : ℕ) (negative : Bool) (top : ℕ) (run : Text) (n : Found (digitsText top) valueTold s at run) where
@@ -214,6 +240,11 @@ module _ (s : List ℕ) (at : ℕ) where
           inside = f .inside;
         }
     int-is r (unfit c f) = unfit c (λ l. opened l ∙ rw (f l))
+
+  -- one that is found without a sign
+  pub int-unsigned : eqb (byteAt s at) (byte ":") ≡ true → (r : Scan) → Scans (signedText (integerLimit unsigned)) (signedTold false) s (at + 1) r → (x : Text) → r ≡ Scan.Is x → Scans intText literalTold s at r
+  int-unsigned colon r h x e =
+      int-is colon unsigned (at + 1) (record { is = digits-unsigned (drop (at + 1) s) (some-digits (integerLimit unsigned) (drop (at + 1) s) _ (found-of h e .is 0)); on = omega arith }) r h
 
   pub int-front : eqb (byteAt s at) (byte ":") ≡ true → (f : Front) (h : FrontIs s (at + 1) f) (r : Scan) → Scans (signedText (f .top)) (signedTold (f .negative)) s (f .from) r → Scans intText literalTold s at r
   int-front colon f h r e = int-is colon (h .sign) (f .from) (record { is = h .is; on = h .on }) r (subst (λ (n : Bool). Scans (signedText (integerLimit (h .sign))) (signedTold n) s (f .from) r) (h .negative) (subst (λ (t : ℕ). Scans (signedText t) (signedTold (f .negative)) s (f .from) r) (h .top) e))

@@ -14,22 +14,18 @@ use Rattle.decimal.specs.declared.Run.{Run}
 use Rattle.decimal.proofs.Decide.{Test, passed, failed, test, T-of}
 use Rattle.decimal.proofs.Numerals.{digit-low, digit-high, digits-split}
 use Rattle.format.specs.Bytes.{byte, bytes, sameBytes}
+use Rattle.format.specs.Syntax.{Sign}
 use Rattle.format.specs.Limits.{signOf, isFloat, isDecimal}
 use Rattle.format.specs.Read.{until}
 use Rattle.bytes_at.specs.ByteAt.{byteAt}
 use Rattle.bytes_at.proofs.BytesAt.{byte-in, byte-there, drop-byte}
 use Rattle.bytes_at.proofs.Runs.{run-rest}
 use Rattle.scanner.specs.Parts.{PlainEnd}
+use Rattle.scanner.proofs.Numbers.{digits-unsigned}
 
--- a digit is none of the bytes that are looked for
+-- a digit is no semicolon
 not-stop : (b : ℕ) → isDigit b ≡ true → eqb 59 b ≡ false
 not-stop b t = ne-eqb 59 b (λ e. omega (arith, digit-low b (T-of t), digit-high b (T-of t), e))
-
-not-plus : (b : ℕ) → isDigit b ≡ true → eqb 43 b ≡ false
-not-plus b t = ne-eqb 43 b (λ e. omega (arith, digit-low b (T-of t), e))
-
-not-minus : (b : ℕ) → isDigit b ≡ true → eqb 45 b ≡ false
-not-minus b t = ne-eqb 45 b (λ e. omega (arith, digit-low b (T-of t), e))
 
 -- a run in front of a text
 run-digits : (t y : List ℕ) → digitsOf (digitsOf t ++ y) ≡ digitsOf t ++ digitsOf y
@@ -57,12 +53,7 @@ run-until (b ∷ t) y = go (test (isDigit b)) (run-until t y)
     go (failed e) r = rw (e, digitsOf)
 
 run-sign : (t y : List ℕ) → 0 < length (digitsOf t) → signOf (digitsOf t ++ y) .1 ≡ digitsOf t ++ y
-run-sign [] y h = absurd (omega (arith, h))
-run-sign (b ∷ t) y h = go (test (isDigit b)) h
-  where
-    go : Test (isDigit b) → 0 < length (digitsOf (b ∷ t)) → signOf (digitsOf (b ∷ t) ++ y) .1 ≡ digitsOf (b ∷ t) ++ y
-    go (passed e) h = rw (e, digitsOf, signOf, not-plus b e, not-minus b e)
-    go (failed e) h = absurd (omega (arith, rw (e, digitsOf) at h))
+run-sign t y h = ap (λ (p : Sign × List ℕ). p .1) (digits-unsigned (digitsOf t ++ y) (omega (arith, ap length (run-digits t y), length-append (digitsOf t) (digitsOf y))))
 
 -- a decimal without a sign is a float
 any : (a b c d : Bool) → d ≡ true → (a || b || c || d) ≡ true

@@ -11,6 +11,7 @@ use Rattle.format.specs.Read.{kindOf, expect, intText, quotedText, boolText, fl
 use Rattle.format.proofs.Answers.{bind-map}
 use Rattle.scanner.specs.declared.Scan.{Scan}
 use Rattle.scanner.specs.Scans.{Reader, Told, Scans, Answers, unfit, nullText, scalarText, scalarBehind, nothingTold, boolTold, literalTold, floatTold, quotedTold, scalarTold}
+use Rattle.scanner.specs.Parts.{Sure}
 use Rattle.scanner.proofs.Numbers.{scans-map, scans-same}
 
 module _ (s : List ℕ) (at b : ℕ) (r : Scan) where
@@ -44,8 +45,8 @@ pub made : {A : Type 0} {read : Reader A} {told : Told A} {s : List ℕ} {at : �
 made {read = read} {told = told} {s = s} {at = at} e h = subst (λ (x : Scan). Answers read told s at x) (sym e) h
 
 -- a tag that the code knows
-pub tag-as : (s : List ℕ) (at b : ℕ) (r : Scan) {k : ℕ} → b ≡ k → Answers (scalarBehind k) (scalarTold at) s at r → Answers (scalarBehind b) (scalarTold at) s at r
-tag-as s at b r e h = subst (λ (x : ℕ). Answers (scalarBehind x) (scalarTold at) s at r) (sym e) h
+pub tag-as : (s : List ℕ) (at b : ℕ) (r : Scan) {k : ℕ} → b ≡ k → Sure (scalarBehind k) (scalarTold at) s at r → Sure (scalarBehind b) (scalarTold at) s at r
+tag-as s at b r e h = subst (λ (x : ℕ). Sure (scalarBehind x) (scalarTold at) s at r) (sym e) h
 
 pub scalar-none : (s : List ℕ) (at b : ℕ) → (b ≡ tag Kind.null → ⊥) → (b ≡ tag Kind.bool → ⊥) → (b ≡ tag Kind.int → ⊥) → (b ≡ tag Kind.float → ⊥) → (b ≡ tag Kind.string → ⊥)
     → Scans (scalarBehind b) (scalarTold at) s at (Scan.Not 3)

@@ -4,7 +4,6 @@ use crate::Text;
 use crate::flag::null;
 use crate::float::plain_end;
 use crate::number::POSITIVE_LIMIT;
-use crate::number::int;
 use crate::number::magnitude;
 use crate::quoted::quoted;
 use crate::scalar::STRING_END;
@@ -13,6 +12,7 @@ use bytes_at::byte_is;
 use format::kind::Kind;
 ghost use mathlib.Core.Path.{_≡_};
 ghost use Rattle.scanner.specs.Scans.{Answers, scalarBehind, scalarTold};
+ghost use Rattle.scanner.specs.Parts.{Sure};
 
 // The same answer, made here: what a call returns lies in memory, and would keep the answers made in line there too.
 fn anew(scan: Scan) -> Scan
@@ -29,26 +29,19 @@ fn anew(scan: Scan) -> Scan
     }
 }
 
-// The text of an i; one without a sign is scanned in line.
-fn unsigned_first(source: &[u8], at: usize) -> Scan
-    ensures { λ r. ⌜ Answers (scalarBehind 105) (scalarTold at) (now (source .entry)) at r ⌝ }
+// The text of an i without a sign; what is refused may be an i all the same.
+fn unsigned(source: &[u8], at: usize) -> Scan
+    ensures { λ r. ⌜ Sure (scalarBehind 105) (scalarTold at) (now (source .entry)) at r ⌝ }
 {
     if !byte_is(source, at, b':') {
         return Scan::Not(2);
     }
-    let from = at + 1;
-    if byte_is(source, from, b'+') {
-        return anew(scalar(source, at, Kind::INT));
-    }
-    if byte_is(source, from, b'-') {
-        return anew(scalar(source, at, Kind::INT));
-    }
-    magnitude(source, from, false, POSITIVE_LIMIT)
+    magnitude(source, at + 1, false, POSITIVE_LIMIT)
 }
 
-// The text of a d; one of digits with at most one point is scanned in line.
-fn plain_first(source: &[u8], at: usize) -> Scan
-    ensures { λ r. ⌜ Answers (scalarBehind 100) (scalarTold at) (now (source .entry)) at r ⌝ }
+// The text of a d of digits with at most one point; what is refused may be a d all the same.
+fn plain(source: &[u8], at: usize) -> Scan
+    ensures { λ r. ⌜ Sure (scalarBehind 100) (scalarTold at) (now (source .entry)) at r ⌝ }
 {
     if !byte_is(source, at, b':') {
         return Scan::Not(2);
@@ -56,7 +49,7 @@ fn plain_first(source: &[u8], at: usize) -> Scan
     let from = at + 1;
     let end = plain_end(source, from);
     if end <= from {
-        return anew(scalar(source, at, Kind::FLOAT));
+        return Scan::Not(2);
     }
     let size = end - from;
     let next = end + 1;
@@ -68,25 +61,36 @@ fn plain_first(source: &[u8], at: usize) -> Scan
     })
 }
 
-// The text of a scalar with this tag, for keys: an i and an s in line.
+// A text that was found in line; else what `scalar` says.
+fn or_scalar(scan: Scan, source: &[u8], at: usize, tag: u8) -> Scan
+    requires { ⌜ Sure (scalarBehind tag) (scalarTold at) (now source) at scan ⌝ }
+    ensures { λ r. ⌜ Answers (scalarBehind tag) (scalarTold at) (now (source .entry)) at r ⌝ }
+{
+    match scan {
+        Scan::Is(text) => Scan::Is(text),
+        Scan::Not(_) => anew(scalar(source, at, tag)),
+    }
+}
+
+// The text of a scalar with this tag, for keys: an i without a sign and an s in line.
 pub fn key(source: &[u8], at: usize, tag: u8) -> Scan
     ensures { λ r. ⌜ Answers (scalarBehind tag) (scalarTold at) (now (source .entry)) at r ⌝ }
 {
     match tag {
-        Kind::INT => int(source, at),
+        Kind::INT => or_scalar(unsigned(source, at), source, at, tag),
         Kind::STRING => quoted(source, at, STRING_END),
         _ => anew(scalar(source, at, tag)),
     }
 }
 
-// The text of a scalar with this tag, for values: an N, an i and a d in line.
+// The text of a scalar with this tag, for values: an N, an i without a sign and a plain d in line.
 pub fn value(source: &[u8], at: usize, tag: u8) -> Scan
     ensures { λ r. ⌜ Answers (scalarBehind tag) (scalarTold at) (now (source .entry)) at r ⌝ }
 {
     match tag {
         Kind::NULL => null(source, at),
-        Kind::INT => unsigned_first(source, at),
-        Kind::FLOAT => plain_first(source, at),
+        Kind::INT => or_scalar(unsigned(source, at), source, at, tag),
+        Kind::FLOAT => or_scalar(plain(source, at), source, at, tag),
         _ => anew(scalar(source, at, tag)),
     }
 }

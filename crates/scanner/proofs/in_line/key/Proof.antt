@@ -5,8 +5,11 @@ use borrow.Author.Needs.{needs}
 use Rattle.scanner.proofs.in_line.key.Statement.{statement}
 use Rattle.scanner.proofs.in_line.key.Tie as tie
 
-int-requires : tie.Need-int-requires
-int-requires c κs = search needs
+unsigned-requires : tie.Need-unsigned-requires
+unsigned-requires c κs = search needs
+
+or-scalar-requires : tie.Need-or-scalar-requires
+or-scalar-requires c κs = scalars.tag-as _ _ _ _ (c .before .match .keys1) (c .unsigned .ensures)
 
 quoted-requires : tie.Need-quoted-requires
 quoted-requires c κs = search needs
@@ -18,7 +21,7 @@ anew-requires : tie.Need-anew-requires
 anew-requires c κs = search needs
 
 returns : tie.Need-returns
-returns c = answered (scalars.scalar-int _ _ _ _ (c .before .match .keys1) (c .int .ensures .scans))
+returns c = c .or-scalar .ensures
 
 returns-2 : tie.Need-returns-2
 returns-2 c = answered (scalars.scalar-string _ _ _ _ (c .before .match .keys2) (c .quoted .ensures .scans))
@@ -29,4 +32,4 @@ returns-3 c = scalars.made (c .anew .ensures) (c .before .scalar .ensures)
 pub key-spec : {M : Type 1} → statement M
 key-spec =
     tie.close
-    (tie.spec int-requires quoted-requires scalar-requires anew-requires returns returns-2 returns-3)
+    (tie.spec unsigned-requires or-scalar-requires quoted-requires scalar-requires anew-requires returns returns-2 returns-3)

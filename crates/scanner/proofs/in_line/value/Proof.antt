@@ -8,11 +8,17 @@ use Rattle.scanner.proofs.in_line.value.Tie as tie
 null-requires : tie.Need-null-requires
 null-requires c κs = search needs
 
-unsigned-first-requires : tie.Need-unsigned-first-requires
-unsigned-first-requires c κs = search needs
+unsigned-requires : tie.Need-unsigned-requires
+unsigned-requires c κs = search needs
 
-plain-first-requires : tie.Need-plain-first-requires
-plain-first-requires c κs = search needs
+or-scalar-requires : tie.Need-or-scalar-requires
+or-scalar-requires c κs = scalars.tag-as _ _ _ _ (c .before .match .keys2) (c .unsigned .ensures)
+
+plain-requires : tie.Need-plain-requires
+plain-requires c κs = search needs
+
+or-scalar-requires-2 : tie.Need-or-scalar-requires-2
+or-scalar-requires-2 c κs = scalars.tag-as _ _ _ _ (c .before .match .keys3) (c .plain .ensures)
 
 scalar-requires : tie.Need-scalar-requires
 scalar-requires c κs = search needs
@@ -24,10 +30,10 @@ returns : tie.Need-returns
 returns c = answered (scalars.scalar-null _ _ _ _ (c .before .match .keys1) (c .null .ensures .scans))
 
 returns-2 : tie.Need-returns-2
-returns-2 c = scalars.tag-as _ _ _ _ (c .before .match .keys2) (c .unsigned-first .ensures)
+returns-2 c = c .or-scalar .ensures
 
 returns-3 : tie.Need-returns-3
-returns-3 c = scalars.tag-as _ _ _ _ (c .before .match .keys3) (c .plain-first .ensures)
+returns-3 c = c .or-scalar2 .ensures
 
 returns-4 : tie.Need-returns-4
 returns-4 c = scalars.made (c .anew .ensures) (c .before .scalar .ensures)
@@ -35,4 +41,4 @@ returns-4 c = scalars.made (c .anew .ensures) (c .before .scalar .ensures)
 pub value-spec : {M : Type 1} → statement M
 value-spec =
     tie.close
-    (tie.spec null-requires unsigned-first-requires plain-first-requires scalar-requires anew-requires returns returns-2 returns-3 returns-4)
+    (tie.spec null-requires unsigned-requires or-scalar-requires plain-requires or-scalar-requires-2 scalar-requires anew-requires returns returns-2 returns-3 returns-4)

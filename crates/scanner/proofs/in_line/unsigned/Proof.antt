@@ -1,0 +1,33 @@
+-- `scanner::in_line::unsigned` meets its contract. Assumes nothing.
+use native.Mathlib.Omega.{arith}
+use mathlib.Core.Path.{refl, sym, _∙_}
+use lib.Dec.{lit<}
+use borrow.Author.Needs.{needs}
+use borrow.Author.Tests.{not-false}
+use Rattle.format.specs.Bytes.{byte}
+use Rattle.bytes_at.proofs.BytesAt.{byte-there}
+use Rattle.scanner.proofs.Numbers.{not-text, found-of, int-unsigned}
+use Rattle.scanner.proofs.Scalars as scalars
+use Rattle.scanner.proofs.in_line.unsigned.Statement.{statement}
+use Rattle.scanner.proofs.in_line.unsigned.Tie as tie
+
+byte-is-requires : tie.Need-byte-is-requires
+byte-is-requires c κs = search needs
+
+returns : tie.Need-returns
+returns c = record { text = λ x e. absurd (not-text e) }
+
+add-magnitude : tie.Need-add-magnitude
+add-magnitude c = omega (arith, byte-there _ _ (byte ":") (lit< tt) (sym (c .before .byte-is .ensures) ∙ not-false _ (c .if1 .left)))
+
+magnitude-requires : tie.Need-magnitude-requires
+magnitude-requires c κs = search needs
+
+returns-2 : tie.Need-returns-2
+returns-2 c =
+    let colon = sym (c .before .before .byte-is .ensures) ∙ not-false _ (c .before .if1 .left) in
+    record { text = λ x e. found-of (scalars.scalar-int _ _ _ _ refl (int-unsigned _ _ colon _ (c .magnitude .ensures) x e)) e }
+
+pub unsigned-spec : {M : Type 1} → statement M
+unsigned-spec =
+    tie.close (tie.spec byte-is-requires returns add-magnitude magnitude-requires returns-2)
