@@ -13,6 +13,12 @@ or-low a b = omega (arith, or-step a b)
 or-half : (a b : ℕ) → bitOr a b / 2 ≡ bitOr (a / 2) (b / 2)
 or-half a b = omega (arith, or-step a b)
 
+and-low : (a b : ℕ) → bitAnd a b % 2 ≡ min (a % 2) (b % 2)
+and-low a b = omega (arith, and-step a b)
+
+and-half : (a b : ℕ) → bitAnd a b / 2 ≡ bitAnd (a / 2) (b / 2)
+and-half a b = omega (arith, and-step a b)
+
 and-bits : (w m : ℕ) → bitAnd (w / 2) (m / 2) ≡ m / 2 → min (w % 2) (m % 2) ≡ m % 2 → bitAnd w m ≡ m
 and-bits w m e f = and-step w m ∙ ap₂ (λ (x y : ℕ). x * 2 + y) e f ∙ div-add-mod' m 2
 
@@ -31,3 +37,22 @@ more-covers w n m = go m w n
         (λ m ih w n e. and-bits (bitOr w n) m
         (ap (λ (x : ℕ). bitAnd x (m / 2)) (or-half w n) ∙ ih (w / 2) (n / 2) (omega (arith, and-step w m)))
         (omega (arith, or-low w n, and-step w m)))
+
+-- two words at once
+pub both-cover : (a b m : ℕ) → bitAnd a m ≡ m → bitAnd b m ≡ m → bitAnd (bitAnd a b) m ≡ m
+both-cover a b m = go m a b
+  where
+    go : (m a b : ℕ) → bitAnd a m ≡ m → bitAnd b m ≡ m → bitAnd (bitAnd a b) m ≡ m
+    go = bin-ind (λ (m : ℕ). (a b : ℕ) → bitAnd a m ≡ m → bitAnd b m ≡ m → bitAnd (bitAnd a b) m ≡ m) (λ a b e f. and-zero-r (bitAnd a b))
+        (λ m ih a b e f. and-bits (bitAnd a b) m
+        (ap (λ (x : ℕ). bitAnd x (m / 2)) (and-half a b) ∙ ih (a / 2) (b / 2) (omega (arith, and-step a m)) (omega (arith, and-step b m)))
+        (omega (arith, and-low a b, and-step a m, and-step b m)))
+
+pub one-covers : (a b m : ℕ) → bitAnd (bitAnd a b) m ≡ m → bitAnd a m ≡ m
+one-covers a b m = go m a b
+  where
+    go : (m a b : ℕ) → bitAnd (bitAnd a b) m ≡ m → bitAnd a m ≡ m
+    go = bin-ind (λ (m : ℕ). (a b : ℕ) → bitAnd (bitAnd a b) m ≡ m → bitAnd a m ≡ m) (λ a b e. and-zero-r a)
+        (λ m ih a b e. and-bits a m
+        (ih (a / 2) (b / 2) (ap (λ (x : ℕ). bitAnd x (m / 2)) (sym (and-half a b)) ∙ omega (arith, and-step (bitAnd a b) m)))
+        (omega (arith, and-low a b, and-step (bitAnd a b) m)))

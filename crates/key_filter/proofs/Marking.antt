@@ -5,84 +5,133 @@ use mathlib.Core.Path.{_≡_, refl, sym, ap, _∙_, subst}
 use mathlib.Core.Bool.{Bool, true, false, _||_}
 use mathlib.Core.List.{List, [], _∷_, _++_}
 use lib.Dec.{T, eqb}
-use lib.Bits.{bitAnd, bitOr, and-le-r}
+use lib.Bits.{bitAnd, bitOr, and-le-r, and-comm}
 use lib.ListN.{length, getD, set, length-set}
 use lib.Seq.{getD-set-same, getD-set-other, set-out}
 use borrow.Author.Tests.{eq-eqb, ne-eqb, eqb-true, eqb-false}
 use Rattle.format.specs.Syntax.{Key}
 use Rattle.format.specs.Keys.{sameKey, hasKey}
 use Rattle.key_filter.specs.Hash.{hashKey}
-use Rattle.key_filter.specs.Filter.{slotOf, maskOf, covers, marked, mark, Entered, Grows, AllMarked}
-use Rattle.key_filter.proofs.Covers.{set-covers, more-covers}
+use Rattle.key_filter.specs.Filter.{slotOf, first, second, maskOf, covers, marked, put, mark, Entered, Grows, AllMarked}
+use Rattle.key_filter.proofs.Covers.{set-covers, more-covers, both-cover, one-covers}
 use Rattle.key_filter.proofs.Hashing.{one-hash}
 
+-- ---- two words get the bits of a mask
+
+module _ (m : List ℕ) (i j q : ℕ) (in₁ : i < length m) (in₂ : j < length m) where
+  abbrev step : List ℕ
+  step = set m i (bitOr (getD m i 0) q)
+
+  at-second : getD (put m i j q) j 0 ≡ bitOr (getD m j 0) q
+  unfolding put
+  at-second = getD-set-same step j (bitOr (getD m j 0) q) 0 (omega (arith, length-set m i (bitOr (getD m i 0) q)))
+
+  elsewhere : (k : ℕ) → (k ≡ j → ⊥) → getD (put m i j q) k 0 ≡ getD step k 0
+  unfolding put
+  elsewhere k n = getD-set-other step j k (bitOr (getD m j 0) q) 0 n
+
+  at-first : (b : Bool) → eqb i j ≡ b → getD (put m i j q) i 0 ≡ bitOr (getD m i 0) q
+  at-first true e = subst (λ (k : ℕ). getD (put m i j q) k 0 ≡ bitOr (getD m k 0) q) (sym (eqb-true i j e)) at-second
+  at-first false e = elsewhere i (eqb-false i j e) ∙ getD-set-same m i (bitOr (getD m i 0) q) 0 in₁
+
+  -- a word that has all bits of another mask keeps them
+  kept : (k n : ℕ) → bitAnd (getD m k 0) n ≡ n → bitAnd (getD (put m i j q) k 0) n ≡ n
+  kept k n c = go (eqb k j) refl (eqb k i) refl
+    where
+      more : getD (put m i j q) k 0 ≡ bitOr (getD m k 0) q → bitAnd (getD (put m i j q) k 0) n ≡ n
+      more e = ap (λ (w : ℕ). bitAnd w n) e ∙ more-covers (getD m k 0) q n c
+
+      at : (l : ℕ) → k ≡ l → getD (put m i j q) l 0 ≡ bitOr (getD m l 0) q → getD (put m i j q) k 0 ≡ bitOr (getD m k 0) q
+      at l e = subst (λ (x : ℕ). getD (put m i j q) x 0 ≡ bitOr (getD m x 0) q) (sym e)
+
+      go : (b : Bool) → eqb k j ≡ b → (d : Bool) → eqb k i ≡ d → bitAnd (getD (put m i j q) k 0) n ≡ n
+      go true e d f = more (at j (eqb-true k j e) at-second)
+      go false e true f = more (at i (eqb-true k i f) (at-first (eqb i j) refl))
+      go false e false f = ap (λ (w : ℕ). bitAnd w n) (elsewhere k (eqb-false k j e) ∙ getD-set-other m i k (bitOr (getD m i 0) q) 0 (eqb-false k i f)) ∙ c
+
+  own-first : bitAnd (getD (put m i j q) i 0) q ≡ q
+  own-first = ap (λ (w : ℕ). bitAnd w q) (at-first (eqb i j) refl) ∙ set-covers (getD m i 0) q
+
+  own-second : bitAnd (getD (put m i j q) j 0) q ≡ q
+  own-second = ap (λ (w : ℕ). bitAnd w q) at-second ∙ set-covers (getD m j 0) q
+
+-- ---- marking a hash
+
+pub slot-in : (n x : ℕ) → 0 < n → slotOf n x < n
+unfolding slotOf
+slot-in n x some = omega (arith, and-le-r x (n - 1))
+
 -- a filter of n words, of which there is one at least
-module _ (m : List ℕ) (n : ℕ) (long : length m ≡ n) (h : ℕ) where
-  abbrev slot : ℕ
-  slot = slotOf n h
+module _ (m : List ℕ) (n : ℕ) (long : length m ≡ n) (some : 0 < n) (h : ℕ) where
+  pub marked-in : marked m h ≡ eqb (bitAnd (bitAnd (getD m (first n h) 0) (getD m (second n h) 0)) (maskOf h)) (maskOf h)
+  unfolding marked covers
+  marked-in = rw (marked, long, ne-eqb n 0 (λ e. omega arith), long)
 
-  module _ (some : 0 < n) where
-    pub slot-in : slot < length m
-    unfolding slotOf
-    slot-in = omega (arith, and-le-r (h / 2 ^ 44) (n - 1))
+  is-marked : bitAnd (getD m (first n h) 0) (maskOf h) ≡ maskOf h → bitAnd (getD m (second n h) 0) (maskOf h) ≡ maskOf h → marked m h ≡ true
+  is-marked a b = marked-in ∙ eq-eqb _ _ (both-cover (getD m (first n h) 0) (getD m (second n h) 0) (maskOf h) a b)
 
-    pub marked-in : marked m h ≡ eqb (bitAnd (getD m slot 0) (maskOf h)) (maskOf h)
-    unfolding marked covers
-    marked-in = rw (marked, long, ne-eqb n 0 (λ e. omega arith), long)
+  both : marked m h ≡ true → bitAnd (bitAnd (getD m (first n h) 0) (getD m (second n h) 0)) (maskOf h) ≡ maskOf h
+  both e = eqb-true _ _ (sym marked-in ∙ e)
+
+  in-first : marked m h ≡ true → bitAnd (getD m (first n h) 0) (maskOf h) ≡ maskOf h
+  in-first e = one-covers (getD m (first n h) 0) (getD m (second n h) 0) (maskOf h) (both e)
+
+  in-second : marked m h ≡ true → bitAnd (getD m (second n h) 0) (maskOf h) ≡ maskOf h
+  in-second e =
+      one-covers (getD m (second n h) 0) (getD m (first n h) 0) (maskOf h)
+      (ap (λ (w : ℕ). bitAnd w (maskOf h)) (and-comm (getD m (second n h) 0) (getD m (first n h) 0)) ∙ both e)
 
 pub marked-none : (m : List ℕ) (h : ℕ) → length m ≡ 0 → marked m h ≡ true
 unfolding marked
 marked-none m h e = rw (marked, e)
 
 mark-none : (m : List ℕ) (h : ℕ) → length m ≡ 0 → mark m h ≡ m
-unfolding mark
-mark-none m h e = set-out m (slotOf (length m) h) (bitOr (getD m (slotOf (length m) h) 0) (maskOf h)) (omega arith)
+unfolding mark put
+mark-none m h e =
+    let i = first (length m) h in
+    let j = second (length m) h in
+    let s = set m i (bitOr (getD m i 0) (maskOf h)) in
+    set-out s j (bitOr (getD m j 0) (maskOf h)) (omega (arith, length-set m i (bitOr (getD m i 0) (maskOf h)))) ∙ set-out m i (bitOr (getD m i 0) (maskOf h)) (omega arith)
 
 mark-length : (m : List ℕ) (h : ℕ) → length (mark m h) ≡ length m
-unfolding mark
-mark-length m h = length-set m (slotOf (length m) h) (bitOr (getD m (slotOf (length m) h) 0) (maskOf h))
-
-word-at : (m : List ℕ) (h i : ℕ) → i ≡ slotOf (length m) h → i < length m → getD (mark m h) i 0 ≡ bitOr (getD m i 0) (maskOf h)
-unfolding mark
-word-at m h i e l = rw (← e) (getD-set-same m i (bitOr (getD m i 0) (maskOf h)) 0 l)
-
-word-other : (m : List ℕ) (h i : ℕ) → (i ≡ slotOf (length m) h → ⊥) → getD (mark m h) i 0 ≡ getD m i 0
-unfolding mark
-word-other m h i n = getD-set-other m (slotOf (length m) h) i (bitOr (getD m (slotOf (length m) h) 0) (maskOf h)) 0 n
+unfolding mark put
+mark-length m h =
+    let i = first (length m) h in
+    let j = second (length m) h in
+    length-set (set m i (bitOr (getD m i 0) (maskOf h))) j (bitOr (getD m j 0) (maskOf h)) ∙ length-set m i (bitOr (getD m i 0) (maskOf h))
 
 -- a hash is marked once it is entered
 pub mark-marked : (m : List ℕ) (h : ℕ) → marked (mark m h) h ≡ true
+unfolding mark
 mark-marked m h = go (eqb (length m) 0) refl
   where
+    i : ℕ
+    i = first (length m) h
+
+    j : ℕ
+    j = second (length m) h
+
     go : (b : Bool) → eqb (length m) 0 ≡ b → marked (mark m h) h ≡ true
     go true e = marked-none (mark m h) h (mark-length m h ∙ eqb-true (length m) 0 e)
     go false e =
         let some : 0 < length m = omega (arith, eqb-false (length m) 0 e) in
-        let at = slotOf (length m) h in
-        marked-in (mark m h) (length m) (mark-length m h) h some
-        ∙ eq-eqb (bitAnd (getD (mark m h) at 0) (maskOf h)) (maskOf h)
-        (ap (λ (w : ℕ). bitAnd w (maskOf h)) (word-at m h at refl (slot-in m (length m) refl h some)) ∙ set-covers (getD m at 0) (maskOf h))
+        let in₁ = slot-in (length m) (h / 2 ^ 44) some in
+        let in₂ = slot-in (length m) (h / 2 ^ 32) some in
+        is-marked (mark m h) (length m) (mark-length m h) some h (own-first m i j (maskOf h) in₁ in₂) (own-second m i j (maskOf h) in₁ in₂)
 
 -- and stays so
 pub mark-grows : (m : List ℕ) (h : ℕ) → Grows m (mark m h)
+unfolding mark
 mark-grows m h = record { keeps = λ g q. go g q (eqb (length m) 0) refl }
   where
-    word : (g : ℕ) → slotOf (length m) g < length m → (d : Bool) → eqb (slotOf (length m) g) (slotOf (length m) h) ≡ d → bitAnd (getD m (slotOf (length m) g) 0) (maskOf g) ≡ maskOf g
-        → bitAnd (getD (mark m h) (slotOf (length m) g) 0) (maskOf g) ≡ maskOf g
-    word g l false f c = ap (λ (w : ℕ). bitAnd w (maskOf g)) (word-other m h (slotOf (length m) g) (eqb-false (slotOf (length m) g) (slotOf (length m) h) f)) ∙ c
-    word g l true f c =
-        ap (λ (w : ℕ). bitAnd w (maskOf g)) (word-at m h (slotOf (length m) g) (eqb-true (slotOf (length m) g) (slotOf (length m) h) f) l)
-        ∙ more-covers (getD m (slotOf (length m) g) 0) (maskOf h) (maskOf g) c
-
     go : (g : ℕ) → marked m g ≡ true → (b : Bool) → eqb (length m) 0 ≡ b → marked (mark m h) g ≡ true
     go g q true e = marked-none (mark m h) g (mark-length m h ∙ eqb-true (length m) 0 e)
     go g q false e =
         let some : 0 < length m = omega (arith, eqb-false (length m) 0 e) in
-        let at = slotOf (length m) g in
-        marked-in (mark m h) (length m) (mark-length m h) g some
-        ∙ eq-eqb (bitAnd (getD (mark m h) at 0) (maskOf g)) (maskOf g)
-        (word g (slot-in m (length m) refl g some) (eqb at (slotOf (length m) h)) refl
-        (eqb-true (bitAnd (getD m at 0) (maskOf g)) (maskOf g) (sym (marked-in m (length m) refl g some) ∙ q)))
+        let keep = kept m (first (length m) h) (second (length m) h) (maskOf h) (slot-in (length m) (h / 2 ^ 44) some) (slot-in (length m) (h / 2 ^ 32) some) in
+        is-marked (mark m h) (length m) (mark-length m h) some g
+        (keep (first (length m) g) (maskOf g) (in-first m (length m) refl some g q))
+        (keep (second (length m) g) (maskOf g) (in-second m (length m) refl some g q))
 
 pub grows-none : (m : List ℕ) → Grows m m
 grows-none m = record { keeps = λ h q. q }
@@ -122,10 +171,10 @@ new-key m holder k (j ∷ ks) e a = rw (differs (sameKey k j) refl) (new-key m h
 pub entered-none : (m : List ℕ) (h : ℕ) → length m ≡ 0 → Entered m m h true
 entered-none m h e = record { answer = sym (marked-none m h e); filter = sym (mark-none m h e) }
 
-pub entered-in : (m : List ℕ) (h slot mask : ℕ) → slot ≡ slotOf (length m) h → slot < length m → mask ≡ maskOf h
-    → Entered m (set m slot (bitOr (getD m slot 0) mask)) h (eqb (bitAnd (getD m slot 0) mask) mask)
-unfolding mark
-entered-in m h slot mask e l f = rw (e, f) (record { answer = sym (marked-in m (length m) refl h (omega arith)); filter = refl })
+pub entered-in : (m : List ℕ) (h i j mask : ℕ) → i ≡ first (length m) h → j ≡ second (length m) h → 0 < length m → mask ≡ maskOf h
+    → Entered m (set (set m i (bitOr (getD m i 0) mask)) j (bitOr (getD m j 0) mask)) h (eqb (bitAnd (bitAnd (getD m i 0) (getD m j 0)) mask) mask)
+unfolding mark put
+entered-in m h i j mask e f some g = rw (e, f, g) (record { answer = sym (marked-in m (length m) refl some h); filter = refl })
 
 module _ {m m′ : List ℕ} {h : ℕ} {r : Bool} (d : Entered m m′ h r) where
   pub entered-grows : Grows m m′

@@ -1,5 +1,5 @@
-// A Bloom filter of keys: which ones a container may have already. A key marks four bits of one word, by its hash, and no bit is ever taken back: a key
-// that has one of its bits unset is new, and any other may be an earlier one or not.
+// A Bloom filter of keys: which ones a container may have already. A key marks three bits in each of two words, by its hash, and no bit is ever taken back:
+// a key that has one of its bits unset is new, and any other may be an earlier one or not.
 use format::kind::Kind;
 use keys::KeyWords;
 ghost use mathlib.Core.Path.{_≡_};
@@ -118,34 +118,35 @@ pub fn hash(source: &[u8], holder: usize, key: KeyWords) -> u64
     text_hash(source, holder, key.content as usize, key.size as usize)
 }
 
-// The bits of a hash in its word.
+// The bits of a hash in each of its words.
 fn mask_of(hash: u64) -> u64
     ensures { λ r. ⌜ r ≡ maskOf hash ⌝ }
 {
-    (1 << ((hash >> 38) % 64))
-        | (1 << ((hash >> 32) % 64))
-        | (1 << ((hash >> 26) % 64))
-        | (1 << ((hash >> 20) % 64))
+    (1 << ((hash >> 26) % 64)) | (1 << ((hash >> 20) % 64)) | (1 << ((hash >> 14) % 64))
 }
 
-// The word of a hash among so many.
-fn slot_of(count: usize, hash: u64) -> usize
+// The word that a number picks among so many.
+fn slot_of(count: usize, number: u64) -> usize
     requires { ⌜ 0 < count ⌝ }
-    ensures { λ r. ⌜ (r ≡ slotOf count hash) × (r < count) ⌝ }
+    ensures { λ r. ⌜ (r ≡ slotOf count number) × (r < count) ⌝ }
 {
-    (hash >> 44) as usize & (count - 1)
+    number as usize & (count - 1)
 }
 
 // Whether a hash is marked already, which it then is. Where no word is lent each counts as marked.
 pub fn enter(filter: &mut [u64], hash: u64) -> bool
     ensures { λ r. ⌜ Entered (now (filter .entry)) (now (filter .exit)) hash r ⌝ }
 {
-    if filter.len() == 0 {
+    let count = filter.len();
+    if count == 0 {
         return true;
     }
-    let slot = slot_of(filter.len(), hash);
+    let one = slot_of(count, hash >> 44);
+    let two = slot_of(count, hash >> 32);
     let mask = mask_of(hash);
-    let word = filter[slot];
-    filter[slot] = word | mask;
-    word & mask == mask
+    let a = filter[one];
+    let b = filter[two];
+    filter[one] = a | mask;
+    filter[two] = b | mask;
+    a & b & mask == mask
 }

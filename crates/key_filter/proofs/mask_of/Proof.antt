@@ -14,12 +14,9 @@ shl-result-2 c = search needs
 shl-result-3 : tie.Need-shl-result-3
 shl-result-3 c = search needs
 
-shl-result-4 : tie.Need-shl-result-4
-shl-result-4 c = search needs
-
 returns : tie.Need-returns
 unfolding maskOf bitOf
 returns c = refl
 
 pub mask-of-spec : {M : Type 1} → statement M
-mask-of-spec = tie.close (tie.spec shl-result shl-result-2 shl-result-3 shl-result-4 returns)
+mask-of-spec = tie.close (tie.spec shl-result shl-result-2 shl-result-3 returns)
