@@ -7,7 +7,7 @@ use mathlib.Core.List.{List, [], _∷_, _++_}
 use mathlib.Core.Bool.{Bool, true, false}
 use lib.Dec.{leb, leb→le, not-T}
 use lib.ListN.{length, take, drop, replicate, drop-of-length-le}
-use lib.Seq.{sets, sets-eq, length-sets, take-append-seam}
+use lib.Seq.{sets-eq, length-sets, take-append-seam}
 use borrow.Author.Tests.{le-leb, lt-leb}
 use Rattle.decimal.proofs.Decide.{Order, below, above, order, T-of, T-false, and-left, and-right}
 use Rattle.format.specs.Syntax.{Value, print}

@@ -12,7 +12,7 @@ use Rattle.rewriting.specs.declared.inserted.Spot.{Spot}
 use Rattle.rewriting.specs.Edited.{stands, insertedText, Parted}
 use Rattle.placing.specs.declared.Placing.{Placing}
 
--- no refusal before 14: the table is that of the plan given, which is no longer than a plan may be, and the bytes to write are known, "the old ones with three changes". Rewriting writes them, for an array's head stands at the spot, and they are no longer than that allows, for tokens stand around it
+-- no refusal before 14: the table is that of the plan given, which is no longer than a plan may be, and the bytes to write are known, "the old ones with three changes". Rewriting writes them, for an array's head stands at the spot, and tokens fill the source around it and the gap
 pub record Located (s : List ℕ) (node place : ℕ) (key value t t′ : List ℕ) (p : Spot) : Type 0 where
   pub table : t′ ≡ tableAfter s t
   pub stands : stands (length s) p ≡ true

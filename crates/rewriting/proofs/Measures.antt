@@ -1,15 +1,13 @@
 -- How long an edited text can be: no index overflows. Assumes nothing.
 use Prim.Native.Nat.{ℕ, suc, _+_, _-_, _*_, _/_, _%_, _≤_}
 use native.Mathlib.Omega.{arith}
-use mathlib.Core.Path.{_≡_, refl, sym, ap, _∙_, subst}
-use mathlib.Core.Bool.{Bool, true, false, _&&_}
+use mathlib.Core.Path.{_≡_, ap, _∙_}
+use mathlib.Core.Bool.{true}
 use mathlib.Core.List.{List, [], _∷_, _++_}
-use lib.Dec.{leb, leb→le}
 use lib.ListN.{length, drop, length-append, length-drop}
 use lib.Seq.{slice, length-slice}
-use borrow.Author.Tests.{le-leb, lt-leb}
 use Rattle.decimal.specs.Digits.{decimal}
-use Rattle.decimal.proofs.Decide.{Order, below, above, order, T-of, and-left, and-right}
+use Rattle.decimal.proofs.Decide.{Order, below, above, order}
 use Rattle.decimal.proofs.Numerals.{decimal-large, decimal-length, decimal-some, by-tens}
 use Rattle.format.specs.Syntax.{Reference}
 use Rattle.format.specs.Limits.{numberLimit, sourceLimit}

@@ -11,7 +11,6 @@ use Rattle.scanner.specs.declared.Scan.{Scan}
 use Rattle.scanner.specs.Scans.{Found, Scans}
 use Rattle.scanner.proofs.Numbers.{unfit-of}
 use Rattle.tokens.specs.Tokens.{readToken, tokenTold}
-use Rattle.tokens.specs.Between.{tokensBetween}
 use Rattle.tokens.proofs.TokenLaws.{token-front}
 use Rattle.tokens.proofs.Standing.{Stands, found-stands}
 use Rattle.tokens.proofs.Stretches.{between-more, between-end, between-outside, between-unfit}

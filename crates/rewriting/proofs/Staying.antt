@@ -6,14 +6,14 @@ use mathlib.Core.Logic.{_⊎_, inl, inr, ⊎-elim}
 use mathlib.Core.Bool.{Bool, true, false}
 use mathlib.Core.List.{List, [], _∷_, _++_}
 use lib.Dec.{T}
-use lib.ListN.{length, getD, drop, length-append, length-drop}
+use lib.ListN.{length, getD, drop, length-drop}
 use lib.Seq.{slice, getD-drop}
 use Rattle.decimal.specs.Digits.{isDigit, spelled}
 use Rattle.decimal.proofs.Decide.{and-left}
 use Rattle.decimal.proofs.Numerals.{areDigits, digit-high, decimal-small, decimal-some, spelled-digits, spelled-some}
 use Rattle.format.specs.Bytes.{byte}
 use Rattle.format.specs.Kind.{Kind, tag}
-use Rattle.format.specs.Syntax.{null, bool, int, float, string, array, object, Spelling, Sign, unsigned, plus, minus, Literal, Container, writeNumber, writeSign}
+use Rattle.format.specs.Syntax.{null, bool, int, float, string, array, object, Spelling, Sign, unsigned, plus, minus, Container, writeNumber, writeSign}
 use Rattle.format.specs.Canonical.{shortestSign}
 use Rattle.format.proofs.Fronts.{number-length}
 use Rattle.scanner.specs.declared.Text.{Text}
@@ -21,12 +21,12 @@ use Rattle.scanner.specs.Scans.{Found}
 use Rattle.tokens.specs.Tokens.{Token, scalar, reference, opening, closing, ReferenceTag, readToken, tokenTold, writeToken, canonicalToken}
 use Rattle.tokens.proofs.Standing.{Stands, first-byte, found-stands}
 use Rattle.rewriting.specs.declared.rewrite.Change.{Change}
-use Rattle.rewriting.specs.Shortest.{ShortestFront, shortestText}
+use Rattle.rewriting.specs.Shortest.{ShortestFront, shortestText, Bounds}
 use Rattle.rewriting.specs.Rewriting.{respelledText}
 use Rattle.rewriting.specs.Shortest as fronts
 use Rattle.rewriting.specs.Stretches.{Changes, Stays}
 use Rattle.rewriting.proofs.Spelled.{as-canonical, as-raised, raised-low, raised-other}
-use Rattle.rewriting.proofs.Respelled.{whole, respelled}
+use Rattle.rewriting.proofs.Respelled.{whole, respelled, bounds}
 
 -- ---- digits
 
@@ -113,18 +113,12 @@ module _ (s : List ℕ) (at : ℕ) (x : Text) where
     inside-opening array w k st = inside-number 97 w k 58 _ (st .written)
     inside-opening (object q) w k st = absurd (n (first-byte s at 79 _ (st .written)))
 
-    inside-int : (i : Literal) (r : List ℕ) → drop at s ≡ 105 ∷ 58 ∷ writeSign (i .sign) (spelled (i .zeros) (i .magnitude) ++ (59 ∷ r)) → at + 4 ≤ length s
-    inside-int i r e = omega (arith, length-drop at s, ap length e, signed (i .sign))
-      where
-        signed : (g : Sign) → 2 ≤ length (writeSign g (spelled (i .zeros) (i .magnitude) ++ (59 ∷ r)))
-        signed unsigned = omega (arith, spelled-some (i .zeros) (i .magnitude), length-append (spelled (i .zeros) (i .magnitude)) (59 ∷ r))
-        signed plus = omega (arith, spelled-some (i .zeros) (i .magnitude), length-append (spelled (i .zeros) (i .magnitude)) (59 ∷ r))
-        signed minus = omega (arith, spelled-some (i .zeros) (i .magnitude), length-append (spelled (i .zeros) (i .magnitude)) (59 ∷ r))
-
     inside-token : (t : Token) → Stands s at t x → at + 4 ≤ length s
     inside-token (scalar null) st = absurd (never-unnumbered 78 _ (st .written) (inl refl))
     inside-token (scalar (bool b)) st = absurd (never-unnumbered 98 _ (st .written) (inr (inl refl)))
-    inside-token (scalar (int i)) st = inside-int i _ (st .written)
+    inside-token (scalar (int i)) st =
+        let b : Bounds s at x = bounds s at x (scalar (int i)) st in
+        omega (arith, b .int (first-byte s at 105 _ (st .written)), b .inside)
     inside-token (scalar (float t)) st = absurd (never-unnumbered 100 _ (st .written) (inr (inr (inl refl))))
     inside-token (scalar (string q)) st = inside-number 115 (q .spelling) (length (q .text)) 58 _ (st .written)
     inside-token (reference r) st = inside-number _ (r .spelling) (r .named) 59 _ (st .written)

@@ -1,7 +1,7 @@
 -- The tokens between two indices: they are what stands there. Assumes nothing.
-use Prim.Native.Nat.{ℕ, zero, suc, _+_, _≤_, _<_}
+use Prim.Native.Nat.{ℕ, zero, suc, _≤_, _<_}
 use native.Mathlib.Omega.{arith}
-use mathlib.Core.Path.{_≡_, refl, sym, ap, _∙_, subst}
+use mathlib.Core.Path.{_≡_, refl, sym, ap, _∙_}
 use mathlib.Core.Bool.{Bool, true, false}
 use mathlib.Core.List.{List, [], _∷_}
 use lib.Dec.{ltb}
@@ -9,7 +9,7 @@ use lib.ListN.{length, drop, length-drop}
 use borrow.Author.Tests.{lt-ltb, le-ltb}
 use Rattle.decimal.proofs.Decide.{Order, below, above, order}
 use Rattle.format.specs.Answer.{Answer, ok, refused}
-use Rattle.tokens.specs.Tokens.{Token, readToken, writeToken, writeTokens, TokenFits, AllFit}
+use Rattle.tokens.specs.Tokens.{Token, readToken, writeToken, writeTokens, AllFit}
 use Rattle.tokens.specs.Between.{tokensUpTo, nextOf, tokensBetween, Stretch}
 use Rattle.tokens.proofs.TokenLaws.{token-printed, token-longer, tokens-longer}
 use Rattle.tokens.proofs.TokenRead.{token-read}

@@ -7,6 +7,14 @@ use Rattle.rewriting.proofs.Spelled as spelled
 use Rattle.rewriting.proofs.rewrite.respell.Statement.{statement}
 use Rattle.rewriting.proofs.rewrite.respell.Tie as tie
 
+-- the text first: what an edit breaks is seen there
+returns-2 : tie.Need-returns-2
+returns-2 c =
+    let told = c .before .before .before .before .before in
+    let pre = told .before .before .before .before .pre in
+    let changes = pre .2 .raises _ (told .enum-told2 .given .1) in
+    puts-as (spelled.as-raised _ _ _ (told .enum-told2 .given .1) ∙ spelled.raised-high _ _ _ _ (changes .0) (changes .1)) (c .before .before .numbered .ensures)
+
 enum-told : tie.Need-enum-told
 enum-told c = search needs
 
@@ -46,13 +54,6 @@ returns c = puts-as (spelled.as-canonical _ _ _ (c .before .before .before .befo
 
 same-length-2 : tie.Need-same-length-2
 same-length-2 c = search needs
-
-returns-2 : tie.Need-returns-2
-returns-2 c =
-    let told = c .before .before .before .before .before in
-    let pre = told .before .before .before .before .pre in
-    let changes = pre .2 .raises _ (told .enum-told2 .given .1) in
-    puts-as (spelled.as-raised _ _ _ (told .enum-told2 .given .1) ∙ spelled.raised-high _ _ _ _ (changes .0) (changes .1)) (c .before .before .numbered .ensures)
 
 pub respell-spec : {M : Type 1} → statement M
 respell-spec =

@@ -13,6 +13,21 @@ Inv-loop source from to change out₀ w kept₀ end₀ out kept end = rewritten.
 abbrev μ-loop : tie.MeasureT-loop
 μ-loop source from to change out₀ w kept₀ end₀ out kept end = length source - kept
 
+-- the text first: what an edit breaks is seen there
+loop-again : tie.Need-loop-again Inv-loop μ-loop
+loop-again c =
+    let spelled = c .before .before in
+    let copied = c .before .before .before .before .before .before in
+    let found = c .before .before .before .before .before .before .before .before .before .before .before in
+    let stop = rewritten.halted-of (found .stretch .ensures) (c .before .before .before .before .before .before .before .before .before .at2 .given .1) in
+    rewritten.rewriting-more (found .before .loop .inv) (stop .0) (copied .copy2 .ensures) (copied .copy2 .kept .1 .1 .1 .0) (stop .1) (spelled .respell .ensures) (spelled .respell .kept .1 .1 .1 .1 .0)
+
+returns-2 : tie.Need-returns-2 Inv-loop μ-loop
+returns-2 c =
+    let found = c .before .before .before .before .before .before .before in
+    let stop = rewritten.ended-of (found .stretch .ensures) (c .before .before .before .before .before .at .given .1) in
+    rewritten.rewriting-all (found .before .loop .inv) (stop .0) (c .before .before .copy .ensures) (c .before .before .copy .kept .1 .1 .1 .0) (stop .1)
+
 returns : tie.Need-returns Inv-loop μ-loop
 returns c = rewritten.nothing-outside _ _ _ (c .before .before .before .args .change) _ _ (omega (arith, c .if1 .taken))
 
@@ -33,12 +48,6 @@ copy-requires c κs =
 
 same-length : tie.Need-same-length Inv-loop μ-loop
 same-length c = search needs
-
-returns-2 : tie.Need-returns-2 Inv-loop μ-loop
-returns-2 c =
-    let found = c .before .before .before .before .before .before .before in
-    let stop = rewritten.ended-of (found .stretch .ensures) (c .before .before .before .before .before .at .given .1) in
-    rewritten.rewriting-all (found .before .loop .inv) (stop .0) (c .before .before .copy .ensures) (c .before .before .copy .kept .1 .1 .1 .0) (stop .1)
 
 enum-known-at-2 : tie.Need-enum-known-at-2 Inv-loop μ-loop
 enum-known-at-2 c = search needs
@@ -61,14 +70,6 @@ loop-less c =
     let found = c .before .before .before .before .before .before .before .before .before .before .before in
     let stop = rewritten.halted-of (found .stretch .ensures) (c .before .before .before .before .before .before .before .before .before .at2 .given .1) in
     omega (arith, stop .0 .on, stop .1 .found .on, stop .1 .found .inside)
-
-loop-again : tie.Need-loop-again Inv-loop μ-loop
-loop-again c =
-    let spelled = c .before .before in
-    let copied = c .before .before .before .before .before .before in
-    let found = c .before .before .before .before .before .before .before .before .before .before .before in
-    let stop = rewritten.halted-of (found .stretch .ensures) (c .before .before .before .before .before .before .before .before .before .at2 .given .1) in
-    rewritten.rewriting-more (found .before .loop .inv) (stop .0) (copied .copy2 .ensures) (copied .copy2 .kept .1 .1 .1 .0) (stop .1) (spelled .respell .ensures) (spelled .respell .kept .1 .1 .1 .1 .0)
 
 pub rewrite-spec : {M : Type 1} → statement M
 rewrite-spec =

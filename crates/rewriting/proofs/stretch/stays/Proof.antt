@@ -36,7 +36,7 @@ enum-known-change : tie.Need-enum-known-change
 enum-known-change c = search needs
 
 returns : tie.Need-returns
-returns c = staying.reference-changes _ _ _ (c .before .before .before .change .given .1) (c .before .match3 .keys1) (omega (arith, c .if1 .taken))
+returns c = staying.reference-changes _ _ _ (c .before .before .before .change .given .1) (c .before .match3 .keys1) (omega arith)
 
 returns-2 : tie.Need-returns-2
 returns-2 c = staying.unnumbered-stays _ _ _ (c .before .enum-told .given .1) (c .match2 .keys1)
@@ -51,7 +51,7 @@ returns-4 c =
     staying.number-stays _ _ _ (start .pre) (matched .before .enum-told .given .1) (matched .match2 .rest .1) _ (c .is-shortest .ensures)
 
 returns-5 : tie.Need-returns-5
-returns-5 c = staying.reference-stays _ _ _ (c .before .before .before .change .given .1) (c .before .match3 .keys1) (omega (arith, c .if1 .left))
+returns-5 c = staying.reference-stays _ _ _ (c .before .before .before .change .given .1) (c .before .match3 .keys1) (omega arith)
 
 returns-6 : tie.Need-returns-6
 returns-6 c = staying.other-stays _ _ _ (c .before .before .change .given .1) (c .match3 .rest .1)
