@@ -138,6 +138,20 @@ meets-bad s t t′ capacity c o r code at e h = subst (Meets s t t′ capacity c
 pub meets-by : (s t t′ : List ℕ) (capacity : ℕ) (c : Cursor) (o o′ : Answer (Value × List ℕ)) (r : Step) → o ≡ o′ → Meets s t t′ capacity c o′ r → Meets s t t′ capacity c o r
 meets-by s t t′ capacity c o o′ r e h = subst (λ (x : Answer (Value × List ℕ)). Meets s t t′ capacity c x r) (sym e) h
 
+-- a copy of the cursor
+pub open-again : {s : List ℕ} {capacity : ℕ} {c d : Cursor} {b : ℕ} → d ≡ c → IsOpen s capacity c b → IsOpen s capacity d b
+open-again {s} {capacity} {b = b} e g = subst (λ (x : Cursor). IsOpen s capacity x b) (sym e) g
+
+-- what a call said of it, told anew
+pub meets-again : (s t t′ : List ℕ) (capacity : ℕ) (c d : Cursor) (b : ℕ) (r q : Step) → IsOpen s capacity c b → d ≡ c → q ≡ r
+    → Meets s t t′ capacity d (bodyAt s capacity (innerAt s capacity (d .levels - 1)) b d) r → Meets s t t′ capacity c (valueAt s capacity c) q
+meets-again s t t′ capacity c d b r q g e f h =
+    meets-by s t t′ capacity c (valueAt s capacity c) (body c) q (gate-open s capacity c b g)
+    (subst (Meets s t t′ capacity c (body c)) (sym f) (subst (λ (x : Cursor). Meets s t t′ capacity x (body x) r) e h))
+  where
+    body : Cursor → Answer (Value × List ℕ)
+    body x = bodyAt s capacity (innerAt s capacity (x .levels - 1)) b x
+
 module _ (s : List ℕ) (capacity : ℕ) (c : Cursor) (b : ℕ) (is : scalarTag b) (inner : Inner) where
   opened : bodyAt s capacity inner b c ≡ (scalarText (kindFor b) (c .at) (drop (c .at + 1) s) >>= λ q. ok (leaf (q .0), q .1))
   unfolding bodyAt

@@ -26,6 +26,28 @@ pub enum Gate {
     Shut(u8),
 }
 
+// The same cursor: what is lent to a call lies in memory, and the cursor itself need not.
+pub(crate) fn again(cursor: Cursor) -> Cursor
+    ensures { λ r. ⌜ r ≡ cursor ⌝ }
+{
+    Cursor {
+        at: cursor.at,
+        node: cursor.node,
+        ordinal: cursor.ordinal,
+        levels: cursor.levels,
+    }
+}
+
+// The same step, made here: what a call returns lies in memory, and would keep the steps made in line there too.
+pub(crate) fn anew(step: Step) -> Step
+    ensures { λ r. ⌜ r ≡ step ⌝ }
+{
+    match step {
+        Step::Done(cursor) => Step::Done(again(cursor)),
+        Step::Refused(code, at) => Step::Refused(code, at),
+    }
+}
+
 // The refusal of a text whose tag stands at an index.
 pub(crate) fn refused(scan: Scan, at: usize) -> Step
     ensures { λ r. ⌜ r ≡ refusalOf scan at ⌝ }

@@ -2,6 +2,8 @@
 use crate::cursor::Cursor;
 use crate::cursor::Gate;
 use crate::cursor::Step;
+use crate::cursor::again;
+use crate::cursor::anew;
 use crate::cursor::check_tag;
 use crate::cursor::refused;
 use crate::head::head;
@@ -40,16 +42,16 @@ fn read_value(
     match gate {
         Gate::Shut(code) => Step::Refused(code, at),
         Gate::Open(tag) => match tag {
-            Kind::ARRAY | Kind::OBJECT => read_container(
+            Kind::ARRAY | Kind::OBJECT => anew(read_container(
                 source,
                 table,
                 filter,
                 capacity,
-                cursor,
+                again(cursor),
                 tag,
-            ),
+            )),
             Kind::OBJECT_REFERENCE | Kind::VARIABLE_REFERENCE => {
-                read_reference(source, table, capacity, cursor, tag)
+                anew(read_reference(source, table, capacity, again(cursor), tag))
             }
             _ => read_common(source, table, capacity, cursor, tag),
         },

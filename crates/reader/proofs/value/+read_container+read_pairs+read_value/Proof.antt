@@ -10,7 +10,7 @@ use Rattle.format.specs.Bytes.{byte}
 use Rattle.bytes_at.proofs.BytesAt.{byte-there}
 use Rattle.scanner.proofs.Numbers.{found-of}
 use Rattle.reader.specs.declared.cursor.Cursor.{Cursor}
-use Rattle.reader.specs.Steps.{Meets, MeetsPairs, MeetsKey, GateAt}
+use Rattle.reader.specs.Steps.{Fit, Meets, MeetsPairs, MeetsKey, GateAt}
 use Rattle.key_filter.proofs.Marking.{grows-none, grows-on}
 use Rattle.reader.proofs.Tagged as tagged
 use Rattle.reader.proofs.Leaves as leaves
@@ -27,6 +27,8 @@ use Rattle.reader.proofs.value.+read_container+read_pairs+read_value.Lt
 use Rattle.reader.proofs.value.read_value.Reads as read-value
 use Rattle.reader.proofs.value.read_value.Kinds as read-value-kinds
 use Rattle.reader.proofs.value.+read_container+read_pairs+read_value.Lts-read_value as read-value-lts
+use Rattle.reader.proofs.cursor.again.Reads as again-reads
+use Rattle.reader.proofs.cursor.anew.Reads as anew-reads
 use Rattle.reader.proofs.cursor.check_tag.Reads as check-tag-reads
 use Rattle.reader.proofs.cursor.refused.Reads as refused-reads
 use Rattle.reader.proofs.head.head.Reads as head-reads
@@ -165,8 +167,12 @@ pub +read-container+read-pairs+read-value-spec : {M : Type 1} → statement M
     λ t. read-value-lts.spec (
       check-tag-reads.Asked,
       check-tag-reads.Learnt,
+      again-reads.Asked,
+      again-reads.Learnt,
       read-container-below t,
       read-container.Post,
+      anew-reads.Asked,
+      anew-reads.Learnt,
       read-reference-reads.Asked,
       read-reference-reads.Learnt,
       read-common-reads.Asked,
@@ -177,14 +183,48 @@ pub +read-container+read-pairs+read-value-spec : {M : Type 1} → statement M
     (λ c κs. c .before .before .before .pre .1 .inside)
     (λ c. search needs)
     (λ c. search needs)
-    (λ c κs. let g = (subst (GateAt _ _ _) (c .before .before .before .before .gate2 .given .1) (c .before .before .before .before .before .before .check-tag .ensures)) in (omega (arith, c .before .before .before .before .before .before .before .before .before .before .pre .0), (c .before .before .before .before .before .before .before .before .before .before .pre .1, (g .inside, g .free, g .level, tagged.container-of _ (c .before .before .match2 .keys1)))))
-    (λ c κs. let g = (subst (GateAt _ _ _) (c .before .before .before .gate2 .given .1) (c .before .before .before .before .before .check-tag .ensures)) in (c .before .before .before .before .before .before .before .before .before .pre .1, (g .inside, g .free, tagged.reference-of _ (c .before .match2 .keys2))))
-    (λ c κs. let g = (subst (GateAt _ _ _) (c .before .before .before .gate2 .given .1) (c .before .before .before .before .before .check-tag .ensures)) in (c .before .before .before .before .before .before .before .before .before .pre .1, (g .inside, g .free, tagged.scalar-rest _ (g .known) (c .before .match2 .rest .0 .1) (c .before .match2 .rest .1))))
+    (λ c κs. search needs)
+    (λ c κs.
+    let kind = c .before .before .before in
+    let opened = kind .before .before in
+    let checked = opened .before .before in
+    let start = checked .before .before .before .before in
+    let e = c .again .ensures in
+    let g = leaves.open-again e (subst (GateAt _ _ _) (opened .gate2 .given .1) (checked .check-tag .ensures)) in
+    (omega (arith, start .pre .0, ap (λ (x : Cursor). x .at) e), (subst (Fit _ _ _) (sym e) (start .pre .1), (g .inside, g .free, g .level, tagged.container-of _ (kind .match2 .keys1)))))
+    (λ c κs. search needs)
+    (λ c κs. search needs)
+    (λ c κs.
+    let kind = c .before .before in
+    let opened = kind .before .before in
+    let checked = opened .before .before in
+    let start = checked .before .before .before .before in
+    let e = c .again2 .ensures in
+    let g = leaves.open-again e (subst (GateAt _ _ _) (opened .gate2 .given .1) (checked .check-tag .ensures)) in
+    (subst (Fit _ _ _) (sym e) (start .pre .1), (g .inside, g .free, tagged.reference-of _ (kind .match2 .keys2))))
+    (λ c κs. search needs)
+    (λ c κs.
+    let opened = c .before .before .before in
+    let checked = opened .before .before in
+    let g = subst (GateAt _ _ _) (opened .gate2 .given .1) (checked .check-tag .ensures) in
+    (checked .before .before .before .before .pre .1, (g .inside, g .free, tagged.scalar-rest _ (g .known) (c .before .match2 .rest .0 .1) (c .before .match2 .rest .1))))
     (λ c. (subst (GateAt _ _ _) (c .before .gate .given .1) (c .before .before .before .check-tag .ensures), grows-none _))
     (λ c. search needs)
     (λ c. search needs)
-    (λ c. (leaves.meets-by _ _ _ _ _ _ _ (c .before .before .before .before .read-container .result) (leaves.gate-open _ _ _ _ (subst (GateAt _ _ _) (c .before .before .before .before .before .before .before .before .before .gate2 .given .1) (c .before .before .before .before .before .before .before .before .before .before .before .check-tag .ensures))) (c .before .before .before .before .read-container .ensures .0), c .before .before .before .before .read-container .ensures .1))
+    (λ c.
+    let called = c .before .before .before .before .before in
+    let opened = called .before .before .before .before .before .before in
+    let g = subst (GateAt _ _ _) (opened .gate2 .given .1) (opened .before .before .check-tag .ensures) in
+    (leaves.meets-again _ _ _ _ _ _ _ _ _ g (called .before .again .ensures) (c .anew .ensures) (called .read-container .ensures .0), called .read-container .ensures .1))
     (λ c. search needs)
-    (λ c. (leaves.meets-by _ _ _ _ _ _ _ (c .before .before .read-reference .result) (leaves.gate-open _ _ _ _ (subst (GateAt _ _ _) (c .before .before .before .before .before .before .gate2 .given .1) (c .before .before .before .before .before .before .before .before .check-tag .ensures))) (c .before .before .read-reference .ensures _), grows-none _))
+    (λ c.
+    let called = c .before .before .before in
+    let opened = called .before .before .before .before .before in
+    let g = subst (GateAt _ _ _) (opened .gate2 .given .1) (opened .before .before .check-tag .ensures) in
+    (leaves.meets-again _ _ _ _ _ _ _ _ _ g (called .before .again2 .ensures) (c .anew2 .ensures) (called .read-reference .ensures _), grows-none _))
     (λ c. search needs)
-    (λ c. (leaves.meets-by _ _ _ _ _ _ _ (c .before .before .read-common .result) (leaves.gate-open _ _ _ _ (subst (GateAt _ _ _) (c .before .before .before .before .before .before .gate2 .given .1) (c .before .before .before .before .before .before .before .before .check-tag .ensures))) (c .before .before .read-common .ensures _), grows-none _))
+    (λ c.
+    let called = c .before .before in
+    let opened = called .before .before .before .before in
+    let g = subst (GateAt _ _ _) (opened .gate2 .given .1) (opened .before .before .check-tag .ensures) in
+    (leaves.meets-by _ _ _ _ _ _ _ (called .read-common .result) (leaves.gate-open _ _ _ _ g) (called .read-common .ensures _), grows-none _))
