@@ -42,19 +42,31 @@ same-length-2 : tie.Need-same-length-2
 same-length-2 c = search needs
 
 returns-2 : tie.Need-returns-2
-returns-2 c = (leaves.meets-by _ _ _ _ _ _ _ (c .before .before .before .before .read-container .result) (leaves.gate-open _ _ _ _ (subst (GateAt _ _ _) (c .before .before .before .before .before .before .before .before .before .gate2 .given .1) (c .before .before .before .before .before .before .before .before .before .before .before .check-tag .ensures))) (c .before .before .before .before .read-container .ensures .0), c .before .before .before .before .read-container .ensures .1)
+returns-2 c =
+    let read-container = c .before .before .before .before in
+    let gate2 = read-container .before .before .before .before .before in
+    let check-tag = gate2 .before .before in
+    (leaves.meets-by _ _ _ _ _ _ _ (read-container .read-container .result) (leaves.gate-open _ _ _ _ (subst (GateAt _ _ _) (gate2 .gate2 .given .1) (check-tag .check-tag .ensures))) (read-container .read-container .ensures .0), read-container .read-container .ensures .1)
 
 same-length-3 : tie.Need-same-length-3
 same-length-3 c = search needs
 
 returns-3 : tie.Need-returns-3
-returns-3 c = (leaves.meets-by _ _ _ _ _ _ _ (c .before .before .read-reference .result) (leaves.gate-open _ _ _ _ (subst (GateAt _ _ _) (c .before .before .before .before .before .before .gate2 .given .1) (c .before .before .before .before .before .before .before .before .check-tag .ensures))) (c .before .before .read-reference .ensures _), grows-none _)
+returns-3 c =
+    let read-reference = c .before .before in
+    let gate2 = read-reference .before .before .before .before in
+    let check-tag = gate2 .before .before in
+    (leaves.meets-by _ _ _ _ _ _ _ (read-reference .read-reference .result) (leaves.gate-open _ _ _ _ (subst (GateAt _ _ _) (gate2 .gate2 .given .1) (check-tag .check-tag .ensures))) (read-reference .read-reference .ensures _), grows-none _)
 
 same-length-4 : tie.Need-same-length-4
 same-length-4 c = search needs
 
 returns-4 : tie.Need-returns-4
-returns-4 c = (leaves.meets-by _ _ _ _ _ _ _ (c .before .before .read-scalar .result) (leaves.gate-open _ _ _ _ (subst (GateAt _ _ _) (c .before .before .before .before .before .before .gate2 .given .1) (c .before .before .before .before .before .before .before .before .check-tag .ensures))) (c .before .before .read-scalar .ensures _), grows-none _)
+returns-4 c =
+    let read-scalar = c .before .before in
+    let gate2 = read-scalar .before .before .before .before in
+    let check-tag = gate2 .before .before in
+    (leaves.meets-by _ _ _ _ _ _ _ (read-scalar .read-scalar .result) (leaves.gate-open _ _ _ _ (subst (GateAt _ _ _) (gate2 .gate2 .given .1) (check-tag .check-tag .ensures))) (read-scalar .read-scalar .ensures _), grows-none _)
 
 pub read-root-spec : {M : Type 1} → statement M
 read-root-spec =
