@@ -48,6 +48,14 @@ stepped {n = n} none h = absurd (omega arith)
 stepped {s = s} {t = t} {n = n} (pair {i = i} {k = k} {ks = ks} h e l c) lt =
     record { key = k; rest = ks; is = refl; held = h; on = omega arith; chain = subst (λ (x : ℕ). Chain s t x n ks) (sym e) c }
 
+-- the next pair stands behind this one, and not behind the last
+module _ {s t : List ℕ} {i n : ℕ} (a : Walk s t i n) (lt : i < n) where
+  pub walk-on : i + 1 < wordAt t i (width + 5)
+  walk-on = stepped (a .chain) lt .on
+
+  pub walk-in : wordAt t i (width + 5) ≤ n
+  walk-in = chain-le (stepped (a .chain) lt .chain)
+
 -- the keys that are left to compare
 record Rest (s t : List ℕ) (i n : ℕ) (k : Key) (all : List Key) : Type 0 where
   keys : List Key
@@ -63,12 +71,6 @@ module _ {s t : List ℕ} {first n : ℕ} {w : KeyWords} where
   left-none a = record { walk = a; left = λ k ks h c. record { keys = ks; chain = c; same = refl } }
 
   module _ {i : ℕ} (l : Left s t first n w i) (lt : i < n) where
-    pub left-on : i + 1 < wordAt t i (width + 5)
-    left-on = stepped (l .walk .chain) lt .on
-
-    pub left-in : wordAt t i (width + 5) ≤ n
-    left-in = chain-le (stepped (l .walk .chain) lt .chain)
-
     module _ (r : Bool) (e : r ≡ sameWords s w s (keyWords t i)) where
       decided : (j k : Key) → Held s j (keyWords t i) → Held s k w → r ≡ sameKey k j
       decided j k h g = e ∙ words-same s w s (keyWords t i) k j g h
@@ -138,13 +140,6 @@ marking-none s t m₀ first n b h e a =
     }
 
 module _ {s t m₀ m : List ℕ} {first n b i : ℕ} (l : Marking s t m₀ m first n b i) where
-  module _ (lt : i < n) where
-    pub marking-on : i + 1 < wordAt t i (width + 5)
-    marking-on = stepped (l .walk .chain) lt .on
-
-    pub marking-in : wordAt t i (width + 5) ≤ n
-    marking-in = chain-le (stepped (l .walk .chain) lt .chain)
-
   -- the key at hand is entered
   module _ (m₁ : List ℕ) (hash : ℕ) (r : Bool) (w w′ : KeyWords) (e : w ≡ keyOr t i n w′) (q : hash ≡ hashWords s first w) (d : Entered m m₁ hash r) where
     module _ (v : KeyWords) (is : keyOr t i n w′ ≡ v) (k : Key) (held : Held s k v) where

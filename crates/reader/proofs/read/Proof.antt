@@ -20,13 +20,21 @@ same-length : tie.Need-same-length
 same-length c = search needs
 
 returns : tie.Need-returns
-returns c = whole.reads-refused _ _ _ _ (c .before .before .before .before .before .before .before .before .before .read-by-length .result) _ _ (c .before .before .before .before .before .before .before .before .before .read-by-length .ensures) (c .before .before .before .before .before .step .given .1) (c .before .before .clear .ensures) (c .before .before .before .before .before .before .before .before .before .read-by-length .kept .1 .0)
+returns c =
+    let clear = c .before .before in
+    let step = clear .before .before .before in
+    let read-by-length = step .before .before .before .before in
+    whole.reads-refused _ _ _ _ (read-by-length .read-by-length .result) _ _ (read-by-length .read-by-length .ensures) (step .step .given .1) (clear .clear .ensures) (read-by-length .read-by-length .kept .1 .0)
 
 same-length-2 : tie.Need-same-length-2
 same-length-2 c = search needs
 
 returns-2 : tie.Need-returns-2
-returns-2 c = whole.reads-accepted _ _ _ (c .before .before .before .before .before .before .before .before .before .args .table .now) (c .before .before .before .before .before .read-by-length .result) _ (c .before .before .before .before .before .read-by-length .ensures) (c .before .step2 .given .1)
+returns-2 c =
+    let step2 = c .before in
+    let read-by-length = step2 .before .before .before .before in
+    let start = read-by-length .before .before .before .before in
+    whole.reads-accepted _ _ _ (start .args .table .now) (read-by-length .read-by-length .result) _ (read-by-length .read-by-length .ensures) (step2 .step2 .given .1)
 
 pub read-spec : {M : Type 1} → statement M
 read-spec =

@@ -36,7 +36,11 @@ shared-slice-read-t14 : tie.Need-shared-slice-read-t14
 shared-slice-read-t14 c = search needs
 
 returns : tie.Need-returns
-returns c = ap (λ (k : ℕ). record { tag = getD (c .before .before .before .args .table .now) k 0; content = getD (c .before .before .before .args .table .now) (c .before .before .before .args .node * 6 + 2) 0; size = getD (c .before .before .before .args .table .now) (c .before .before .before .args .node * 6 + 3) 0 }) (sym (add-zero (c .before .before .before .args .node * 6)))
+returns c =
+    let args = c .before .before .before .args in
+    let t = args .table .now in
+    let k = args .node * 6 in
+    ap (λ (i : ℕ). record { tag = getD t i 0; content = getD t (k + 2) 0; size = getD t (k + 3) 0 }) (sym (add-zero k))
 
 pub key-at-spec : {M : Type 1} → statement M
 key-at-spec =

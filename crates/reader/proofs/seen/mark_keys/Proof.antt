@@ -40,31 +40,32 @@ returns c =
 
 mul-i : tie.Need-mul-i Inv-loop μ-loop
 mul-i c =
-    let inv = c .before .before .before .before .before .before .before .loop .inv in
-    omega (arith, keys.marking-on inv (c .if1 .left), keys.marking-in inv (c .if1 .left))
+    let walk = c .before .before .before .before .before .before .before .loop .inv .walk in
+    omega (arith, keys.walk-on walk (c .if1 .left), keys.walk-in walk (c .if1 .left))
 
 add-i : tie.Need-add-i Inv-loop μ-loop
 add-i c =
-    let inv = c .before .before .before .before .before .before .before .loop .inv in
-    omega (arith, keys.marking-on inv (c .if1 .left), keys.marking-in inv (c .if1 .left))
+    let walk = c .before .before .before .before .before .before .before .loop .inv .walk in
+    omega (arith, keys.walk-on walk (c .if1 .left), keys.walk-in walk (c .if1 .left))
 
 mul-i-2 : tie.Need-mul-i-2 Inv-loop μ-loop
 mul-i-2 c =
-    let inv = c .before .before .before .before .before .before .before .loop .inv in
-    omega (arith, keys.marking-on inv (c .if1 .left), keys.marking-in inv (c .if1 .left))
+    let walk = c .before .before .before .before .before .before .before .loop .inv .walk in
+    omega (arith, keys.walk-on walk (c .if1 .left), keys.walk-in walk (c .if1 .left))
 
 shared-slice-read-i : tie.Need-shared-slice-read-i Inv-loop μ-loop
 shared-slice-read-i c =
     let test = c .before in
     let loop = test .before .before .before .before .before .before .before in
     let start = loop .before .before .before .before .before in
-    omega (arith, keys.marking-on (loop .loop .inv) (test .if1 .left), keys.marking-in (loop .loop .inv) (test .if1 .left), start .pre .0)
+    let walk = loop .loop .inv .walk in
+    omega (arith, keys.walk-on walk (test .if1 .left), keys.walk-in walk (test .if1 .left), start .pre .0)
 
 loop-less : tie.Need-loop-less Inv-loop μ-loop
 loop-less c =
     let test = c .before in
-    let inv = test .before .before .before .before .before .before .before .loop .inv in
-    omega (arith, keys.marking-on inv (test .if1 .left), keys.marking-in inv (test .if1 .left))
+    let walk = test .before .before .before .before .before .before .before .loop .inv .walk in
+    omega (arith, keys.walk-on walk (test .if1 .left), keys.walk-in walk (test .if1 .left))
 
 loop-again : tie.Need-loop-again Inv-loop μ-loop
 loop-again c =

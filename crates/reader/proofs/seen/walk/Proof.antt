@@ -18,31 +18,57 @@ loop-holds : tie.Need-loop-holds Inv-loop μ-loop
 loop-holds c = keys.left-none (c .before .before .pre .1)
 
 key-at-requires : tie.Need-key-at-requires Inv-loop μ-loop
-key-at-requires c κs = omega (arith, keys.left-on (c .before .loop .inv) (c .loop-test .taken), keys.left-in (c .before .loop .inv) (c .loop-test .taken))
+key-at-requires c κs = omega (arith, keys.walk-on (c .before .loop .inv .walk) (c .loop-test .taken), keys.walk-in (c .before .loop .inv .walk) (c .loop-test .taken))
 
 same-key-requires : tie.Need-same-key-requires Inv-loop μ-loop
 same-key-requires c κs = search needs
 
 returns : tie.Need-returns Inv-loop μ-loop
-returns c = keys.left-found (c .before .before .before .before .loop .inv) (c .before .before .before .loop-test .taken) _ (c .before .same-key .ensures ∙ ap (sameWords _ _ _) (c .before .before .key-at .ensures)) (c .if1 .taken)
+returns c =
+    let same-key = c .before in
+    let key-at = same-key .before in
+    let loop-test = key-at .before in
+    let loop = loop-test .before in
+    keys.left-found (loop .loop .inv) (loop-test .loop-test .taken) _ (same-key .same-key .ensures ∙ ap (sameWords _ _ _) (key-at .key-at .ensures)) (c .if1 .taken)
 
 mul-i : tie.Need-mul-i Inv-loop μ-loop
-mul-i c = omega (arith, keys.left-on (c .before .before .before .before .loop .inv) (c .before .before .before .loop-test .taken), keys.left-in (c .before .before .before .before .loop .inv) (c .before .before .before .loop-test .taken))
+mul-i c =
+    let loop-test = c .before .before .before in
+    let walk = loop-test .before .loop .inv .walk in
+    omega (arith, keys.walk-on walk (loop-test .loop-test .taken), keys.walk-in walk (loop-test .loop-test .taken))
 
 add-i : tie.Need-add-i Inv-loop μ-loop
-add-i c = omega (arith, keys.left-on (c .before .before .before .before .loop .inv) (c .before .before .before .loop-test .taken), keys.left-in (c .before .before .before .before .loop .inv) (c .before .before .before .loop-test .taken))
+add-i c =
+    let loop-test = c .before .before .before in
+    let walk = loop-test .before .loop .inv .walk in
+    omega (arith, keys.walk-on walk (loop-test .loop-test .taken), keys.walk-in walk (loop-test .loop-test .taken))
 
 mul-i-2 : tie.Need-mul-i-2 Inv-loop μ-loop
-mul-i-2 c = omega (arith, keys.left-on (c .before .before .before .before .loop .inv) (c .before .before .before .loop-test .taken), keys.left-in (c .before .before .before .before .loop .inv) (c .before .before .before .loop-test .taken))
+mul-i-2 c =
+    let loop-test = c .before .before .before in
+    let walk = loop-test .before .loop .inv .walk in
+    omega (arith, keys.walk-on walk (loop-test .loop-test .taken), keys.walk-in walk (loop-test .loop-test .taken))
 
 shared-slice-read-i : tie.Need-shared-slice-read-i Inv-loop μ-loop
-shared-slice-read-i c = omega (arith, keys.left-on (c .before .before .before .before .before .loop .inv) (c .before .before .before .before .loop-test .taken), keys.left-in (c .before .before .before .before .before .loop .inv) (c .before .before .before .before .loop-test .taken))
+shared-slice-read-i c =
+    let loop-test = c .before .before .before .before in
+    let walk = loop-test .before .loop .inv .walk in
+    omega (arith, keys.walk-on walk (loop-test .loop-test .taken), keys.walk-in walk (loop-test .loop-test .taken))
 
 loop-less : tie.Need-loop-less Inv-loop μ-loop
-loop-less c = omega (arith, keys.left-on (c .before .before .before .before .before .loop .inv) (c .before .before .before .before .loop-test .taken), keys.left-in (c .before .before .before .before .before .loop .inv) (c .before .before .before .before .loop-test .taken))
+loop-less c =
+    let loop-test = c .before .before .before .before in
+    let walk = loop-test .before .loop .inv .walk in
+    omega (arith, keys.walk-on walk (loop-test .loop-test .taken), keys.walk-in walk (loop-test .loop-test .taken))
 
 loop-again : tie.Need-loop-again Inv-loop μ-loop
-loop-again c = keys.left-more (c .before .before .before .before .before .loop .inv) (c .before .before .before .before .loop-test .taken) _ (c .before .before .same-key .ensures ∙ ap (sameWords _ _ _) (c .before .before .before .key-at .ensures)) (c .before .if1 .left)
+loop-again c =
+    let if1 = c .before in
+    let same-key = if1 .before in
+    let key-at = same-key .before in
+    let loop-test = key-at .before in
+    let loop = loop-test .before in
+    keys.left-more (loop .loop .inv) (loop-test .loop-test .taken) _ (same-key .same-key .ensures ∙ ap (sameWords _ _ _) (key-at .key-at .ensures)) (if1 .if1 .left)
 
 returns-2 : tie.Need-returns-2 Inv-loop μ-loop
 returns-2 c = keys.left-end (c .before .loop .inv) (c .loop-test .left)

@@ -112,23 +112,85 @@ pub +read-container+read-pairs+read-value-spec : {M : Type 1} → statement M
     (λ c. search needs)
     (λ c. search needs)
     (λ c κs. search needs)
-    (λ c. (containers.head-not _ _ _ _ (c .before .before .before .before .before .before .before .pre .1 .1 .3) (c .before .before .before .before .before .before .before .args .table .now) (c .before .before .before .before .before .before .before .args .table .now) _ _ _ (c .before .before .before .head .ensures) (c .before .enum-told .given .1) (c .refused .ensures), grows-none _))
-    (λ c κs. let f = c .before .before .before .before .before .before .before .before .pre .1 .0 in let b = c .before .before .before .before .before .before .before .before .pre .1 .1 in (omega arith, f .ordinal, b .2))
-    (λ c κs. let f = c .before .before .before .before .before .before .before .before .before .before .before .before .before .pre .1 .0 in let b = c .before .before .before .before .before .before .before .before .before .before .before .before .before .pre .1 .1 in let h = (found-of (c .before .before .before .before .before .before .before .before .before .head .ensures) (c .before .before .before .before .before .before .before .scan .given .1)) in let e = (c .before .before .before .before .enter .ensures) .cursor in (omega (arith, ap (λ (i : Cursor). i .at) e, h .on, h .inside), containers.first-fit _ _ _ _ _ _ _ e (h .inside) f (b .1) (c .before .before .before .before .enter .kept .0)))
+    (λ c.
+    let enum-told = c .before in
+    let head = enum-told .before .before in
+    let start = head .before .before .before .before in (
+      containers.head-not _ _ _ _ (start .pre .1 .1 .3) (start .args .table .now) (start .args .table .now) _ _ _ (head .head .ensures) (enum-told .enum-told .given .1) (c .refused .ensures),
+      grows-none _,
+    ))
+    (λ c κs.
+    let start = c .before .before .before .before .before .before .before .before in
+    let f = start .pre .1 .0 in
+    let b = start .pre .1 .1 in
+    (omega arith, f .ordinal, b .2))
+    (λ c κs.
+    let enter = c .before .before .before .before in
+    let scan = enter .before .before .before in
+    let head = scan .before .before in
+    let start = head .before .before .before .before in
+    let f = start .pre .1 .0 in
+    let b = start .pre .1 .1 in
+    let h = (found-of (head .head .ensures) (scan .scan .given .1)) in
+    let e = (enter .enter .ensures) .cursor in
+    (omega (arith, ap (λ (i : Cursor). i .at) e, h .on, h .inside), containers.first-fit _ _ _ _ _ _ _ e (h .inside) f (b .1) (enter .enter .kept .0)))
     (λ c. search needs)
     (λ c. search needs)
     (λ c. search needs)
     (λ c. search needs)
-    (λ c. (leaves.meets-bad _ _ _ _ _ _ _ _ _ (c .enum-told2 .given .1) (containers.pairs-refused _ _ _ _ (c .before .before .before .before .before .before .before .before .before .before .before .before .before .before .before .before .before .before .before .before .pre .1 .1 .3) _ (found-of (c .before .before .before .before .before .before .before .before .before .before .before .before .before .before .before .before .head .ensures) (c .before .before .before .before .before .before .before .before .before .before .before .before .before .before .scan .given .1)) _ ((c .before .before .before .before .before .before .before .before .before .before .before .enter .ensures) .cursor) _ _ (subst (MeetsPairs _ _ _ _ _ _) (c .enum-told2 .given .1) (c .before .before .before .before .before .before .read-pairs .ensures .0))), c .before .before .before .before .before .before .read-pairs .ensures .1))
+    (λ c.
+    let read-pairs = c .before .before .before .before .before .before in
+    let enter = read-pairs .before .before .before .before .before in
+    let scan = enter .before .before .before in
+    let head = scan .before .before in
+    let start = head .before .before .before .before in (
+      leaves.meets-bad _ _ _ _ _ _ _ _ _ (c .enum-told2 .given .1) (containers.pairs-refused _ _ _ _ (start .pre .1 .1 .3) _ (found-of (head .head .ensures) (scan .scan .given .1)) _ ((enter .enter .ensures) .cursor) _ _ (subst (MeetsPairs _ _ _ _ _ _) (c .enum-told2 .given .1) (read-pairs .read-pairs .ensures .0))),
+      read-pairs .read-pairs .ensures .1,
+    ))
     (λ c κs. search needs)
     (λ c. search needs)
     (λ c. search needs)
-    (λ c. (containers.brace-missing _ _ _ _ (c .before .before .before .before .before .before .before .before .before .before .before .before .before .before .before .before .before .before .before .before .before .before .before .pre .1 .1 .3) _ (found-of (c .before .before .before .before .before .before .before .before .before .before .before .before .before .before .before .before .before .before .before .head .ensures) (c .before .before .before .before .before .before .before .before .before .before .before .before .before .before .before .before .before .scan .given .1)) (c .before .before .before .before .before .before .before .before .before .before .before .before .before .before .before .before .before .before .before .before .before .before .before .args .table .now) _ _ (c .before .before .before .before .before .before .before .before .before .before .before .before .before .before .before .before .before .before .before .before .before .before .before .args .table .now) (c .before .before .before .before .before .before .before .before .before .before .before .before .before .before .before .before .before .before .before .before .before .before .before .pre .1 .0) (c .before .before .before .before .before .before .before .before .before .before .before .before .before .before .before .before .before .before .before .before .before .before .before .pre .1 .1 .1) _ _ (c .before .before .before .before .before .before .before .before .before .before .before .before .before .before .enter .ensures) (subst (MeetsPairs _ _ _ _ _ _) (c .before .before .before .step .given .1) (c .before .before .before .before .before .before .before .before .before .read-pairs .ensures .0)) (sym (c .before .byte-is .ensures) ∙ not-true _ (c .if1 .taken)), c .before .before .before .before .before .before .before .before .before .read-pairs .ensures .1))
-    (λ c κs. let f = c .before .before .before .before .before .before .before .before .before .before .before .before .before .before .before .before .before .before .before .before .before .before .before .before .pre .1 .0 in let b = c .before .before .before .before .before .before .before .before .before .before .before .before .before .before .before .before .before .before .before .before .before .before .before .before .pre .1 .1 in omega arith)
-    (λ c. let g = c .before .before .before .before .before .before .before .before .before .before .before .before .before .before .before .before .before .before .before .before .before .before .before .before .before .before .before .good .0 in omega (arith, byte-there _ _ (byte "}") (lit< tt) (sym (c .before .before .before .before .before .byte-is .ensures) ∙ not-false _ (c .before .before .before .before .if1 .left))))
+    (λ c.
+    let byte-is = c .before in
+    let step = byte-is .before .before in
+    let read-pairs = step .before .before .before .before .before .before in
+    let enter = read-pairs .before .before .before .before .before in
+    let scan = enter .before .before .before in
+    let head = scan .before .before in
+    let start = head .before .before .before .before in
+    let is = found-of (head .head .ensures) (scan .scan .given .1) in
+    let inner = subst (MeetsPairs _ _ _ _ _ _) (step .step .given .1) (read-pairs .read-pairs .ensures .0) in (
+      containers.brace-missing _ _ _ _ (start .pre .1 .1 .3) _ is (start .args .table .now) _ _ (start .args .table .now) (start .pre .1 .0) (start .pre .1 .1 .1) _ _ (enter .enter .ensures) inner (sym (byte-is .byte-is .ensures) ∙ not-true _ (c .if1 .taken)),
+      read-pairs .read-pairs .ensures .1,
+    ))
+    (λ c κs.
+    let start = c .before .before .before .before .before .before .before .before .before .before .before .before .before .before .before .before .before .before .before .before .before .before .before .before in
+    let f = start .pre .1 .0 in
+    let b = start .pre .1 .1 in
+    omega arith)
+    (λ c.
+    let if1 = c .before .before .before .before in
+    let byte-is = if1 .before in
+    let start = byte-is .before .before .before .before .before .before .before .before .before .before .before .before .before .before .before .before .before .before .before .before .before .before in
+    let g = start .good .0 in
+    omega (arith, byte-there _ _ (byte "}") (lit< tt) (sym (byte-is .byte-is .ensures) ∙ not-false _ (if1 .if1 .left))))
     (λ c. search needs)
     (λ c. search needs)
-    (λ c. (containers.container-good _ _ _ _ (c .before .before .before .before .before .before .before .before .before .before .before .before .before .before .before .before .before .before .before .before .before .before .before .before .before .before .before .pre .1 .1 .3) _ (found-of (c .before .before .before .before .before .before .before .before .before .before .before .before .before .before .before .before .before .before .before .before .before .before .before .head .ensures) (c .before .before .before .before .before .before .before .before .before .before .before .before .before .before .before .before .before .before .before .before .before .scan .given .1)) (c .before .before .before .before .before .before .before .before .before .before .before .before .before .before .before .before .before .before .before .before .before .before .before .before .before .before .before .args .table .now) _ _ _ (c .before .before .before .before .before .before .before .before .before .before .before .before .before .before .before .before .before .before .before .before .before .before .before .before .before .before .before .pre .1 .0) (c .before .before .before .before .before .before .before .before .before .before .before .before .before .before .before .before .before .before .before .before .before .before .before .before .before .before .before .pre .1 .1 .1) _ _ (c .before .before .before .before .before .before .before .before .before .before .before .before .before .before .before .before .before .before .enter .ensures) (subst (MeetsPairs _ _ _ _ _ _) (c .before .before .before .before .before .before .before .step .given .1) (c .before .before .before .before .before .before .before .before .before .before .before .before .before .read-pairs .ensures .0)) (sym (c .before .before .before .before .before .byte-is .ensures) ∙ not-false _ (c .before .before .before .before .if1 .left)) (c .before .before .before .before .before .before .before .before .before .before .before .before .before .read-pairs .kept .1 .0) (c .before .before .put-end .ensures), c .before .before .before .before .before .before .before .before .before .before .before .before .before .read-pairs .ensures .1)))
+    (λ c.
+    let put-end = c .before .before in
+    let if1 = put-end .before .before in
+    let byte-is = if1 .before in
+    let step = byte-is .before .before in
+    let read-pairs = step .before .before .before .before .before .before in
+    let enter = read-pairs .before .before .before .before .before in
+    let scan = enter .before .before .before in
+    let head = scan .before .before in
+    let start = head .before .before .before .before in
+    let is = found-of (head .head .ensures) (scan .scan .given .1) in
+    let inner = subst (MeetsPairs _ _ _ _ _ _) (step .step .given .1) (read-pairs .read-pairs .ensures .0) in (
+      containers.container-good _ _ _ _ (start .pre .1 .1 .3) _ is (start .args .table .now) _ _ _ (start .pre .1 .0) (start .pre .1 .1 .1) _ _ (enter .enter .ensures) inner (sym (byte-is .byte-is .ensures) ∙ not-false _ (if1 .if1 .left)) (read-pairs .read-pairs .kept .1 .0) (put-end .put-end .ensures),
+      read-pairs .read-pairs .ensures .1,
+    )))
     (λ t. read-pairs-lts.spec (
       read-key-reads.Asked,
       read-key-reads.Learnt,
@@ -147,20 +209,81 @@ pub +read-container+read-pairs+read-value-spec : {M : Type 1} → statement M
     (λ c κs. ((c .before .before .before .loop .inv) .fit, pairs.run-walk (c .before .before .before .loop .inv)))
     (λ c. search needs)
     (λ c. search needs)
-    (λ c. omega (arith, (c .before .before .before .before .before .before .before .before .before .before .loop .inv) .long, c .before .before .before .before .before .before .read-key .kept .1 .0))
-    (λ c. omega (arith, (c .before .before .before .before .before .before .before .before .before .before .loop .inv) .filter-long, c .before .before .before .before .before .before .read-key .kept .1 .1 .0))
-    (λ c. (pairs.pairs-bad _ _ _ _ _ _ _ _ _ (c .enum-told .given .1) (pairs.run-key-bad (c .before .before .before .before .before .before .before .before .before .before .loop .inv) (c .before .before .before .before .before .before .before .before .before .loop-test .taken) _ _ (subst (MeetsKey _ _ _ _ _ _) (c .enum-told .given .1) (c .before .before .before .before .before .before .read-key .ensures .0 ((c .before .before .before .before .before .before .before .before .before .before .loop .inv) .earlier) ((c .before .before .before .before .before .before .before .before .before .before .loop .inv) .keys)))), grows-on ((c .before .before .before .before .before .before .before .before .before .before .loop .inv) .grown) (c .before .before .before .before .before .before .read-key .ensures .1 .grows)))
-    (λ c κs. let k = (subst (MeetsKey _ _ _ _ _ _) (c .before .before .key .given .1) (c .before .before .before .before .before .before .before .before .read-key .ensures .0 ((c .before .before .before .before .before .before .before .before .before .before .before .before .loop .inv) .earlier) ((c .before .before .before .before .before .before .before .before .before .before .before .before .loop .inv) .keys))) in let f = (c .before .before .before .before .before .before .before .before .before .before .before .before .loop .inv) .fit in omega (arith, k .fits, k .node, c .before .before .before .before .before .before .before .before .read-key .kept .1 .0))
+    (λ c.
+    let read-key = c .before .before .before .before .before .before in
+    let loop = read-key .before .before .before .before in
+    omega (arith, (loop .loop .inv) .long, read-key .read-key .kept .1 .0))
+    (λ c.
+    let read-key = c .before .before .before .before .before .before in
+    let loop = read-key .before .before .before .before in
+    omega (arith, (loop .loop .inv) .filter-long, read-key .read-key .kept .1 .1 .0))
+    (λ c.
+    let read-key = c .before .before .before .before .before .before in
+    let loop-test = read-key .before .before .before in
+    let loop = loop-test .before in (
+      pairs.pairs-bad _ _ _ _ _ _ _ _ _ (c .enum-told .given .1) (pairs.run-key-bad (loop .loop .inv) (loop-test .loop-test .taken) _ _ (subst (MeetsKey _ _ _ _ _ _) (c .enum-told .given .1) (read-key .read-key .ensures .0 ((loop .loop .inv) .earlier) ((loop .loop .inv) .keys)))),
+      grows-on ((loop .loop .inv) .grown) (read-key .read-key .ensures .1 .grows),
+    ))
+    (λ c κs.
+    let key = c .before .before in
+    let read-key = key .before .before .before .before .before .before in
+    let loop = read-key .before .before .before .before in
+    let k = (subst (MeetsKey _ _ _ _ _ _) (key .key .given .1) (read-key .read-key .ensures .0 ((loop .loop .inv) .earlier) ((loop .loop .inv) .keys))) in
+    let f = (loop .loop .inv) .fit in
+    omega (arith, k .fits, k .node, read-key .read-key .kept .1 .0))
     (λ c κs. search needs)
-    (λ c κs. let k = (subst (MeetsKey _ _ _ _ _ _) (c .before .before .before .before .before .before .key .given .1) (c .before .before .before .before .before .before .before .before .before .before .before .before .read-key .ensures .0 ((c .before .before .before .before .before .before .before .before .before .before .before .before .before .before .before .before .loop .inv) .earlier) ((c .before .before .before .before .before .before .before .before .before .before .before .before .before .before .before .before .loop .inv) .keys))) in let o = pairs.run-on (c .before .before .before .before .before .before .before .before .before .before .before .before .before .before .before .before .loop .inv) in (omega (arith, k .on, k .inside), pairs.mid-fit (c .before .before .before .before .before .before .before .before .before .before .before .before .before .before .before .before .loop .inv) (c .before .before .before .before .before .before .before .before .before .before .before .before .before .before .before .loop-test .taken) _ _ k (c .before .before .before .before .before .before .before .before .before .before .before .before .read-key .kept .1 .0)))
+    (λ c κs.
+    let key = c .before .before .before .before .before .before in
+    let read-key = key .before .before .before .before .before .before in
+    let loop-test = read-key .before .before .before in
+    let loop = loop-test .before in
+    let k = (subst (MeetsKey _ _ _ _ _ _) (key .key .given .1) (read-key .read-key .ensures .0 ((loop .loop .inv) .earlier) ((loop .loop .inv) .keys))) in
+    let o = pairs.run-on (loop .loop .inv) in
+    (omega (arith, k .on, k .inside), pairs.mid-fit (loop .loop .inv) (loop-test .loop-test .taken) _ _ k (read-key .read-key .kept .1 .0)))
     (λ c. search needs)
     (λ c. search needs)
-    (λ c. omega (arith, (c .before .before .before .before .before .before .before .before .before .before .before .before .before .before .before .before .before .before .before .before .before .before .before .before .loop .inv) .long, c .before .before .before .before .before .before .before .before .before .before .before .before .before .before .before .before .before .before .before .before .read-key .kept .1 .0, c .before .before .before .before .before .before .before .read-value .kept .1 .0))
-    (λ c. omega (arith, (c .before .before .before .before .before .before .before .before .before .before .before .before .before .before .before .before .before .before .before .before .before .before .before .before .loop .inv) .filter-long, c .before .before .before .before .before .before .before .before .before .before .before .before .before .before .before .before .before .before .before .before .read-key .kept .1 .1 .0, c .before .before .before .before .before .before .before .read-value .kept .1 .1 .0))
-    (λ c. (pairs.run-value-bad (c .before .before .before .before .before .before .before .before .before .before .before .before .before .before .before .before .before .before .before .before .before .before .before .before .loop .inv) (c .before .before .before .before .before .before .before .before .before .before .before .before .before .before .before .before .before .before .before .before .before .before .before .loop-test .taken) _ _ (subst (MeetsKey _ _ _ _ _ _) (c .before .before .before .before .before .before .before .before .before .before .before .before .before .before .key .given .1) (c .before .before .before .before .before .before .before .before .before .before .before .before .before .before .before .before .before .before .before .before .read-key .ensures .0 ((c .before .before .before .before .before .before .before .before .before .before .before .before .before .before .before .before .before .before .before .before .before .before .before .before .loop .inv) .earlier) ((c .before .before .before .before .before .before .before .before .before .before .before .before .before .before .before .before .before .before .before .before .before .before .before .before .loop .inv) .keys))) _ _ (subst (Meets _ _ _ _ _ _) (c .before .value2 .given .1) (c .before .before .before .before .before .before .before .read-value .ensures .0)), grows-on ((c .before .before .before .before .before .before .before .before .before .before .before .before .before .before .before .before .before .before .before .before .before .before .before .before .loop .inv) .grown) (grows-on (c .before .before .before .before .before .before .before .before .before .before .before .before .before .before .before .before .before .before .before .before .read-key .ensures .1 .grows) (c .before .before .before .before .before .before .before .read-value .ensures .1))))
-    (λ c. omega (arith, c .before .before .before .before .before .before .before .before .before .before .before .before .before .before .before .before .before .before .before .before .before .before .before .loop-test .taken))
-    (λ c. omega (arith, c .before .before .before .before .before .before .before .before .before .before .before .before .before .before .before .before .before .before .before .before .before .before .before .loop-test .taken))
-    (λ c. pairs.run-more (c .before .before .before .before .before .before .before .before .before .before .before .before .before .before .before .before .before .before .before .before .before .before .before .before .loop .inv) (c .before .before .before .before .before .before .before .before .before .before .before .before .before .before .before .before .before .before .before .before .before .before .before .loop-test .taken) _ _ (subst (MeetsKey _ _ _ _ _ _) (c .before .before .before .before .before .before .before .before .before .before .before .before .before .before .key .given .1) (c .before .before .before .before .before .before .before .before .before .before .before .before .before .before .before .before .before .before .before .before .read-key .ensures .0 ((c .before .before .before .before .before .before .before .before .before .before .before .before .before .before .before .before .before .before .before .before .before .before .before .before .loop .inv) .earlier) ((c .before .before .before .before .before .before .before .before .before .before .before .before .before .before .before .before .before .before .before .before .before .before .before .before .loop .inv) .keys))) _ _ (subst (Meets _ _ _ _ _ _) (c .before .value .given .1) (c .before .before .before .before .before .before .before .read-value .ensures .0)) (c .before .before .before .before .before .before .before .before .before .before .before .before .before .before .before .before .before .before .before .before .read-key .kept .1 .0) (c .before .before .before .before .before .before .before .read-value .kept .1 .0) _ _ (c .before .before .before .before .before .before .before .before .before .before .before .before .before .before .before .before .before .before .before .before .read-key .kept .1 .1 .0) (c .before .before .before .before .before .before .before .read-value .kept .1 .1 .0) _ (c .before .before .before .before .before .before .before .before .before .before .before .before .before .before .key .given .1) (c .before .before .before .before .before .before .before .before .before .before .before .before .before .before .before .before .before .before .before .before .read-key .ensures .1) (c .before .before .before .before .before .before .before .read-value .ensures .1) _ _ (c .before .before .before .before .before .before .before .before .before .before .before .key-at .ensures) (c .before .before .before .before .before .before .before .before .before .before .next .ensures))
+    (λ c.
+    let read-value = c .before .before .before .before .before .before .before in
+    let read-key = read-value .before .before .before .before .before .before .before .before .before .before .before .before .before in
+    let loop = read-key .before .before .before .before in
+    omega (arith, (loop .loop .inv) .long, read-key .read-key .kept .1 .0, read-value .read-value .kept .1 .0))
+    (λ c.
+    let read-value = c .before .before .before .before .before .before .before in
+    let read-key = read-value .before .before .before .before .before .before .before .before .before .before .before .before .before in
+    let loop = read-key .before .before .before .before in
+    omega (arith, (loop .loop .inv) .filter-long, read-key .read-key .kept .1 .1 .0, read-value .read-value .kept .1 .1 .0))
+    (λ c.
+    let value2 = c .before in
+    let read-value = value2 .before .before .before .before .before .before in
+    let key = read-value .before .before .before .before .before .before .before in
+    let read-key = key .before .before .before .before .before .before in
+    let loop-test = read-key .before .before .before in
+    let loop = loop-test .before in
+    let run = loop .loop .inv in
+    let read = subst (MeetsKey _ _ _ _ _ _) (key .key .given .1) (read-key .read-key .ensures .0 (run .earlier) (run .keys)) in
+    let held = subst (Meets _ _ _ _ _ _) (value2 .value2 .given .1) (read-value .read-value .ensures .0) in (
+      pairs.run-value-bad run (loop-test .loop-test .taken) _ _ read _ _ held,
+      grows-on (run .grown) (grows-on (read-key .read-key .ensures .1 .grows) (read-value .read-value .ensures .1)),
+    ))
+    (λ c.
+    let loop-test = c .before .before .before .before .before .before .before .before .before .before .before .before .before .before .before .before .before .before .before .before .before .before .before in
+    omega (arith, loop-test .loop-test .taken))
+    (λ c.
+    let loop-test = c .before .before .before .before .before .before .before .before .before .before .before .before .before .before .before .before .before .before .before .before .before .before .before in
+    omega (arith, loop-test .loop-test .taken))
+    (λ c.
+    let value = c .before in
+    let read-value = value .before .before .before .before .before .before in
+    let next = read-value .before .before .before in
+    let key-at = next .before in
+    let key = key-at .before .before .before in
+    let read-key = key .before .before .before .before .before .before in
+    let loop-test = read-key .before .before .before in
+    let loop = loop-test .before in
+    let run = loop .loop .inv in
+    let read = subst (MeetsKey _ _ _ _ _ _) (key .key .given .1) (read-key .read-key .ensures .0 (run .earlier) (run .keys)) in
+    let held = subst (Meets _ _ _ _ _ _) (value .value .given .1) (read-value .read-value .ensures .0) in
+    pairs.run-more run (loop-test .loop-test .taken) _ _ read _ _ held (read-key .read-key .kept .1 .0) (read-value .read-value .kept .1 .0) _ _ (read-key .read-key .kept .1 .1 .0) (read-value .read-value .kept .1 .1 .0) _ (key .key .given .1) (read-key .read-key .ensures .1) (read-value .read-value .ensures .1) _ _ (key-at .key-at .ensures) (next .next .ensures))
     (λ c. search needs)
     (λ c. search needs)
     (λ c. (pairs.run-done (c .before .loop .inv) (omega arith), (c .before .loop .inv) .grown)))
