@@ -25,10 +25,12 @@ const SOURCE_LIMIT: usize = 65536;
 
 const DEPTH_LIMIT: usize = 64;
 
-// From these lengths on a plan has a filter of its keys, and a large one: to clear it costs little beside reading so long a plan.
-const FILTER_FROM: usize = 128;
+// From these lengths on a plan has a filter of its keys, a larger and a large one: to clear it costs little beside reading so long a plan.
+const FILTER_FROM: usize = 96;
 
-const LARGE_FILTER_FROM: usize = 4096;
+const LARGER_FROM: usize = 4096;
+
+const LARGE_FROM: usize = 16384;
 
 // What reading answers: the nodes written and the ordinals taken, or a refusal's number and position.
 pub enum Reading {
@@ -70,8 +72,8 @@ fn read_unfiltered(source: &[u8], table: &mut [u64], capacity: usize) -> Step
     read_whole(source, table, &mut filter[..0], capacity)
 }
 
-// A plan of some hundred keys at the most.
-fn read_filtered(source: &[u8], table: &mut [u64], capacity: usize) -> Step
+// A plan with a filter of so many words.
+fn read_with_128(source: &[u8], table: &mut [u64], capacity: usize) -> Step
     requires { ⌜ capacity * width ≤ length (now table) ⌝ }
     ensures { λ r. ⌜ Whole (now (source .entry)) (now (table .entry)) (now (table .exit)) capacity r ⌝ }
 {
@@ -79,7 +81,15 @@ fn read_filtered(source: &[u8], table: &mut [u64], capacity: usize) -> Step
     read_whole(source, table, &mut filter, capacity)
 }
 
-fn read_large(source: &[u8], table: &mut [u64], capacity: usize) -> Step
+fn read_with_1024(source: &[u8], table: &mut [u64], capacity: usize) -> Step
+    requires { ⌜ capacity * width ≤ length (now table) ⌝ }
+    ensures { λ r. ⌜ Whole (now (source .entry)) (now (table .entry)) (now (table .exit)) capacity r ⌝ }
+{
+    let mut filter = [0u64; 1024];
+    read_whole(source, table, &mut filter, capacity)
+}
+
+fn read_with_4096(source: &[u8], table: &mut [u64], capacity: usize) -> Step
     requires { ⌜ capacity * width ≤ length (now table) ⌝ }
     ensures { λ r. ⌜ Whole (now (source .entry)) (now (table .entry)) (now (table .exit)) capacity r ⌝ }
 {
@@ -87,7 +97,7 @@ fn read_large(source: &[u8], table: &mut [u64], capacity: usize) -> Step
     read_whole(source, table, &mut filter, capacity)
 }
 
-// A plan with as large a filter as its length asks for: a word at least for 32 bytes, so that a new key is seldom taken for marked.
+// A plan with as large a filter as its length asks for: a word for 32 bytes at least, so that a new key is seldom taken for marked.
 fn read_by_length(source: &[u8], table: &mut [u64], capacity: usize) -> Step
     requires { ⌜ capacity * width ≤ length (now table) ⌝ }
     ensures { λ r. ⌜ Whole (now (source .entry)) (now (table .entry)) (now (table .exit)) capacity r ⌝ }
@@ -95,10 +105,13 @@ fn read_by_length(source: &[u8], table: &mut [u64], capacity: usize) -> Step
     if source.len() < FILTER_FROM {
         return read_unfiltered(source, table, capacity);
     }
-    if source.len() < LARGE_FILTER_FROM {
-        return read_filtered(source, table, capacity);
+    if source.len() < LARGER_FROM {
+        return read_with_128(source, table, capacity);
     }
-    read_large(source, table, capacity)
+    if source.len() < LARGE_FROM {
+        return read_with_1024(source, table, capacity);
+    }
+    read_with_4096(source, table, capacity)
 }
 
 // Reads a plan into the table; a refusal makes every word of it zero.
