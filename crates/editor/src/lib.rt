@@ -16,7 +16,8 @@ ghost use Rattle.editor.specs.Ends.{Refuses, Settles, Short, Spared, Sou
 // "bytes to write exceed the output's length or 65,536" is refused.
 const SOURCE_LIMIT: usize = 65536;
 
-// What is written of so short a source, key and value is never longer than a plan may be: a reference of four bytes grows by one at the most, all else by the pair and a digit of the count.
+// What is written of so short a source, key and value is never longer than a plan may be: a reference has four bytes or more and grows by one at the most, so five quarters of
+// the source, both texts and a head of nine bytes are at most 65,259.
 const SHORT_SOURCE: usize = 49000;
 
 const SHORT_TEXT: usize = 2000;
