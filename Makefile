@@ -76,7 +76,7 @@ bench: archive
 test:
 	rt fmt --check
 	mkdir -p $(BUILD)
-	set -o pipefail; RT_JOBS=$(JOBS) rt ci | tee $(BUILD)/ci.log | sed '$$d' || { tail -n 1 $(BUILD)/ci.log; exit 1; }
+	set -o pipefail; RT_JOBS=$(JOBS) rt ci | tee $(BUILD)/ci.log | sed -u '$$d' || { tail -n 1 $(BUILD)/ci.log; exit 1; }
 	$(MAKE) --no-print-directory compare
 	tail -n 1 $(BUILD)/ci.log
 

@@ -12,7 +12,7 @@ use borrow.Author.Tests.{eq-eqb, ne-eqb, eqb-true, eqb-false}
 use Rattle.format.specs.Syntax.{Key}
 use Rattle.format.specs.Keys.{sameKey, hasKey}
 use Rattle.key_filter.specs.Hash.{hashKey}
-use Rattle.key_filter.specs.Filter.{slotOf, first, second, maskOf, covers, marked, put, mark, Entered, Grows, AllMarked}
+use Rattle.key_filter.specs.Filter.{slotOf, first, second, maskOf, covers, marked, withMask, mark, Entered, Grows, AllMarked}
 use Rattle.key_filter.proofs.Covers.{set-covers, more-covers, both-cover, one-covers}
 use Rattle.key_filter.proofs.Hashing.{one-hash}
 
@@ -22,37 +22,37 @@ module _ (m : List ℕ) (i j q : ℕ) (in₁ : i < length m) (in₂ : j < length
   abbrev step : List ℕ
   step = set m i (bitOr (getD m i 0) q)
 
-  at-second : getD (put m i j q) j 0 ≡ bitOr (getD m j 0) q
-  unfolding put
+  at-second : getD (withMask m i j q) j 0 ≡ bitOr (getD m j 0) q
+  unfolding withMask
   at-second = getD-set-same step j (bitOr (getD m j 0) q) 0 (omega (arith, length-set m i (bitOr (getD m i 0) q)))
 
-  elsewhere : (k : ℕ) → (k ≡ j → ⊥) → getD (put m i j q) k 0 ≡ getD step k 0
-  unfolding put
+  elsewhere : (k : ℕ) → (k ≡ j → ⊥) → getD (withMask m i j q) k 0 ≡ getD step k 0
+  unfolding withMask
   elsewhere k n = getD-set-other step j k (bitOr (getD m j 0) q) 0 n
 
-  at-first : (b : Bool) → eqb i j ≡ b → getD (put m i j q) i 0 ≡ bitOr (getD m i 0) q
-  at-first true e = subst (λ (k : ℕ). getD (put m i j q) k 0 ≡ bitOr (getD m k 0) q) (sym (eqb-true i j e)) at-second
+  at-first : (b : Bool) → eqb i j ≡ b → getD (withMask m i j q) i 0 ≡ bitOr (getD m i 0) q
+  at-first true e = subst (λ (k : ℕ). getD (withMask m i j q) k 0 ≡ bitOr (getD m k 0) q) (sym (eqb-true i j e)) at-second
   at-first false e = elsewhere i (eqb-false i j e) ∙ getD-set-same m i (bitOr (getD m i 0) q) 0 in₁
 
   -- a word that has all bits of another mask keeps them
-  kept : (k n : ℕ) → bitAnd (getD m k 0) n ≡ n → bitAnd (getD (put m i j q) k 0) n ≡ n
+  kept : (k n : ℕ) → bitAnd (getD m k 0) n ≡ n → bitAnd (getD (withMask m i j q) k 0) n ≡ n
   kept k n c = go (eqb k j) refl (eqb k i) refl
     where
-      more : getD (put m i j q) k 0 ≡ bitOr (getD m k 0) q → bitAnd (getD (put m i j q) k 0) n ≡ n
+      more : getD (withMask m i j q) k 0 ≡ bitOr (getD m k 0) q → bitAnd (getD (withMask m i j q) k 0) n ≡ n
       more e = ap (λ (w : ℕ). bitAnd w n) e ∙ more-covers (getD m k 0) q n c
 
-      at : (l : ℕ) → k ≡ l → getD (put m i j q) l 0 ≡ bitOr (getD m l 0) q → getD (put m i j q) k 0 ≡ bitOr (getD m k 0) q
-      at l e = subst (λ (x : ℕ). getD (put m i j q) x 0 ≡ bitOr (getD m x 0) q) (sym e)
+      at : (l : ℕ) → k ≡ l → getD (withMask m i j q) l 0 ≡ bitOr (getD m l 0) q → getD (withMask m i j q) k 0 ≡ bitOr (getD m k 0) q
+      at l e = subst (λ (x : ℕ). getD (withMask m i j q) x 0 ≡ bitOr (getD m x 0) q) (sym e)
 
-      go : (b : Bool) → eqb k j ≡ b → (d : Bool) → eqb k i ≡ d → bitAnd (getD (put m i j q) k 0) n ≡ n
+      go : (b : Bool) → eqb k j ≡ b → (d : Bool) → eqb k i ≡ d → bitAnd (getD (withMask m i j q) k 0) n ≡ n
       go true e d f = more (at j (eqb-true k j e) at-second)
       go false e true f = more (at i (eqb-true k i f) (at-first (eqb i j) refl))
       go false e false f = ap (λ (w : ℕ). bitAnd w n) (elsewhere k (eqb-false k j e) ∙ getD-set-other m i k (bitOr (getD m i 0) q) 0 (eqb-false k i f)) ∙ c
 
-  own-first : bitAnd (getD (put m i j q) i 0) q ≡ q
+  own-first : bitAnd (getD (withMask m i j q) i 0) q ≡ q
   own-first = ap (λ (w : ℕ). bitAnd w q) (at-first (eqb i j) refl) ∙ set-covers (getD m i 0) q
 
-  own-second : bitAnd (getD (put m i j q) j 0) q ≡ q
+  own-second : bitAnd (getD (withMask m i j q) j 0) q ≡ q
   own-second = ap (λ (w : ℕ). bitAnd w q) at-second ∙ set-covers (getD m j 0) q
 
 -- ---- marking a hash
@@ -86,7 +86,7 @@ unfolding marked
 marked-none m h e = rw (marked, e)
 
 mark-none : (m : List ℕ) (h : ℕ) → length m ≡ 0 → mark m h ≡ m
-unfolding mark put
+unfolding mark withMask
 mark-none m h e =
     let i = first (length m) h in
     let j = second (length m) h in
@@ -94,7 +94,7 @@ mark-none m h e =
     set-out s j (bitOr (getD m j 0) (maskOf h)) (omega (arith, length-set m i (bitOr (getD m i 0) (maskOf h)))) ∙ set-out m i (bitOr (getD m i 0) (maskOf h)) (omega arith)
 
 mark-length : (m : List ℕ) (h : ℕ) → length (mark m h) ≡ length m
-unfolding mark put
+unfolding mark withMask
 mark-length m h =
     let i = first (length m) h in
     let j = second (length m) h in
@@ -173,7 +173,7 @@ entered-none m h e = record { answer = sym (marked-none m h e); filter = sym (ma
 
 pub entered-in : (m : List ℕ) (h i j mask : ℕ) → i ≡ first (length m) h → j ≡ second (length m) h → 0 < length m → mask ≡ maskOf h
     → Entered m (set (set m i (bitOr (getD m i 0) mask)) j (bitOr (getD m j 0) mask)) h (eqb (bitAnd (bitAnd (getD m i 0) (getD m j 0)) mask) mask)
-unfolding mark put
+unfolding mark withMask
 entered-in m h i j mask e f some g = rw (e, f, g) (record { answer = sym (marked-in m (length m) refl some h); filter = refl })
 
 module _ {m m′ : List ℕ} {h : ℕ} {r : Bool} (d : Entered m m′ h r) where

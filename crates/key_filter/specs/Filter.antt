@@ -34,11 +34,11 @@ unfoldable pub marked : List ℕ → ℕ → Bool
 marked m h = elim (eqb (length m) 0) [ true ↦ true | false ↦ covers (getD m (first (length m) h) 0) (getD m (second (length m) h) 0) (maskOf h) ]
 
 -- two words get the bits of a mask
-unfoldable pub put : List ℕ → (one two mask : ℕ) → List ℕ
-put m i j q = set (set m i (bitOr (getD m i 0) q)) j (bitOr (getD m j 0) q)
+unfoldable pub withMask : List ℕ → (one two mask : ℕ) → List ℕ
+withMask m i j q = set (set m i (bitOr (getD m i 0) q)) j (bitOr (getD m j 0) q)
 
 unfoldable pub mark : List ℕ → ℕ → List ℕ
-mark m h = put m (first (length m) h) (second (length m) h) (maskOf h)
+mark m h = withMask m (first (length m) h) (second (length m) h) (maskOf h)
 
 pub record Entered (m m′ : List ℕ) (h : ℕ) (r : Bool) : Type 0 where
   pub answer : r ≡ marked m h

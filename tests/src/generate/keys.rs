@@ -37,9 +37,7 @@ pub struct Keys {
 impl Keys {
     /// Keys for an array of `count` pairs.
     pub fn of_array(random: &mut Random, count: usize) -> Self {
-        // Above this the library's comparing of keys that do not rise takes the run's time.
         let scheme = match random.below(10) {
-            _ if count > 400 => rising(random, count),
             0..=2 => rising(random, count),
             3..=4 => falling(random, count),
             _ => unordered(random),

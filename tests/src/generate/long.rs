@@ -108,16 +108,16 @@ fn pairs(
     (pairs, count)
 }
 
-/// An array of many pairs whose keys do not rise, or repeat one near the end.
+/// An array of a few pairs to very many whose keys do not rise, or that has one of them again.
 pub fn crowded(random: &mut Random) -> Vec<u8> {
-    let count = random.between(1_000, 2_500);
+    let (least, most) = random.pick(&[(4, 20), (20, 200), (200, 1_000), (1_000, 4_000)]);
+    let count = random.between(least, most);
     let mut keys = Keys::crowded(random, count);
     let mut plan = format!("a:{count}:{{").into_bytes();
-    let repeating = random.one_in(3);
+    let any = random.below(count);
+    let again_at = random.one_in(3).then(|| random.pick(&[any, count - 1]));
     for place in 0..count {
-        let again = keys
-            .repeated(random)
-            .filter(|_| repeating && place + 5 == count);
+        let again = keys.repeated(random).filter(|_| again_at == Some(place));
         let key = again.unwrap_or_else(|| keys.fresh(random));
         keys::write(random, &mut plan, &key);
         plan.extend(b"N;");

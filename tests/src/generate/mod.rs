@@ -19,18 +19,17 @@ use plan::{write, Style};
 /// The bytes that the format itself uses.
 pub const ALPHABET: &[u8] = b"NbidsaOrR:;{}\"0123456789+-.eEIFACoSU";
 
-/// One plan of any sort. The rare sorts are those that take long to read: many keys that do not
-/// rise make the library compare each with all before it.
+/// One plan of any sort. The rare sorts are the long ones.
 pub fn plan(random: &mut Random) -> Vec<u8> {
     match random.below(10_000) {
-        0..=1 => crowded(random),
-        2..=15 => padded(random),
-        16..=41 => wide(random, 0),
-        42..=69 => wide(random, 700),
-        70..=74 => listed(random, 1_000),
-        75..=99 => listed(random, 100),
-        100..=199 => listed(random, 10),
-        200..=499 => linked(random),
+        0..=39 => crowded(random),
+        40..=53 => padded(random),
+        54..=79 => wide(random, 0),
+        80..=107 => wide(random, 700),
+        108..=112 => listed(random, 1_000),
+        113..=137 => listed(random, 100),
+        138..=237 => listed(random, 10),
+        238..=499 => linked(random),
         500..=3_499 => valid(random),
         3_500..=6_499 => damaged(random),
         6_500..=7_999 => faulty(random),

@@ -1,18 +1,22 @@
 //! What the plans of a run were.
 
 use super::Line;
-use crate::model::{Survey, Table};
+use crate::model::{Code, Refusal, Survey, Table};
 use crate::oddities;
 
 /// The nine kinds by their tags.
 const KINDS: &[u8; 9] = b"NbidsaOrR";
 /// The kinds that a key can have.
 const KEY_KINDS: &[u8; 2] = b"is";
+/// Equal keys are counted by the length of their plan: up to each of these.
+const LENGTHS: [usize; 3] = [1_000, 10_000, 65_536];
 
 #[derive(Default)]
 pub struct Plans {
     /// All different.
     pub met: u64,
+    /// Those that are refused for equal keys, by `LENGTHS`.
+    repeating: [u64; LENGTHS.len()],
     /// Accepted when the table suffices; what follows is of these.
     accepted: u64,
     longest: usize,
@@ -30,7 +34,10 @@ pub struct Plans {
 impl Plans {
     pub fn count(&mut self, source: &[u8], survey: &Survey) {
         self.met += 1;
-        let Ok(table) = &survey.answer else { return };
+        let table = match &survey.answer {
+            Ok(table) => table,
+            Err(refusal) => return self.count_refusal(source.len(), refusal),
+        };
         self.accepted += 1;
         self.longest = self.longest.max(source.len());
         self.deepest = self.deepest.max(survey.depth);
@@ -40,6 +47,13 @@ impl Plans {
             *count += u64::from(odd);
         }
         self.count_nodes(table);
+    }
+
+    fn count_refusal(&mut self, length: usize, refusal: &Refusal) {
+        let class = LENGTHS.iter().position(|&most| length <= most);
+        if let Some(class) = class.filter(|_| refusal.code == Code::EqualKey) {
+            self.repeating[class] += 1;
+        }
     }
 
     fn count_nodes(&mut self, table: &Table) {
@@ -70,6 +84,10 @@ impl Plans {
             Line::told("deepest accepted", self.deepest as u64),
             Line::needed("accepted, not canonical", self.respelled),
         ];
+        let repeating = LENGTHS.iter().zip(self.repeating);
+        lines.extend(repeating.map(|(length, count)| {
+            Line::needed(format!("equal keys in up to {length} bytes"), count)
+        }));
         lines.extend(odd.map(|(name, count)| Line::needed(format!("plans with {name}"), count)));
         lines.extend(values.map(of_kind("values")));
         lines.extend(keys.map(of_kind("keys")));

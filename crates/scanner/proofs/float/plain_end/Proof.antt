@@ -38,7 +38,13 @@ byte-is-requires-3 : tie.Need-byte-is-requires-3
 byte-is-requires-3 c κs = search needs
 
 returns-4 : tie.Need-returns-4
-returns-4 c = λ h. plain.plain-part _ _ _ (c .before .before .before .before .before .before .before .before .run-at .ensures) (c .before .before .before .before .before .before .before .if1 .left) (sym (c .before .before .before .before .byte-is2 .ensures) ∙ not-false _ (c .before .before .before .if3 .left)) _ (c .before .before .run-at2 .ensures) (sym (c .before .byte-is3 .ensures) ∙ c .if4 .taken)
+returns-4 c =
+    let fraction = c .before .before in
+    let point-asked = fraction .before .before in
+    let whole = point-asked .before .before .before .before in
+    let point = sym (point-asked .byte-is2 .ensures) ∙ not-false _ (fraction .before .if3 .left) in
+    let end = sym (c .before .byte-is3 .ensures) ∙ c .if4 .taken in
+    λ h. plain.plain-part _ _ _ (whole .run-at .ensures) (point-asked .before .before .before .if1 .left) point _ (fraction .run-at2 .ensures) end
 
 returns-5 : tie.Need-returns-5
 returns-5 c = λ h. absurd (omega (arith, h))
