@@ -14,8 +14,8 @@
  * An out of 65,536 bytes is always long enough.
  *
  * A refusal leaves every word of the table 0 and every byte of out as it was. A call keeps no pointer, uses no other memory
- * but the stack, and ends for every input. There is no global state: threads may call at the same time, each with a table
- * and an out of its own. */
+ * but the stack (less than 100,000 bytes of it, which is tested), and ends for every input. There is no global state: threads
+ * may call at the same time, each with a table and an out of its own. */
 #ifndef TONSCHNECKE_H
 #define TONSCHNECKE_H
 

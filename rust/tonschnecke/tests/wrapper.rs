@@ -132,3 +132,36 @@ fn the_longest_source_has_room_for_a_pair_more() {
     assert_eq!(table_words(SOURCE_LIMIT + 1), table_words(SOURCE_LIMIT));
     assert_eq!(table_words(usize::MAX), table_words(SOURCE_LIMIT));
 }
+
+/// The deepest nesting and the most keys that do not rise: what needs the most stack.
+fn deep_and_crowded() -> String {
+    let keys: String = (0..3_000)
+        .map(|i| format!("s:5:\"{:05}\";N;", i * 7_919 % 100_000))
+        .collect();
+    format!(
+        "{}a:3000:{{{keys}{}",
+        "a:1:{i:0;".repeat(62),
+        "}".repeat(63)
+    )
+}
+
+#[test]
+fn a_call_needs_less_than_100_000_bytes_of_stack() {
+    let source = deep_and_crowded();
+    let called = std::thread::Builder::new()
+        .stack_size(100_000)
+        .spawn(move || {
+            let insertion = Insertion {
+                array_node: 0,
+                pair_index: 0,
+                key: b"i:-1;",
+                value: b"N;",
+            };
+            let mut table = vec![0; table_words(source.len())];
+            let mut out = vec![0; SOURCE_LIMIT];
+            insert(source.as_bytes(), insertion, &mut table, &mut out)
+                .map(|length| length - source.len())
+        })
+        .unwrap();
+    assert_eq!(called.join().unwrap(), Ok("i:-1;N;".len()));
+}
