@@ -1,4 +1,5 @@
 // The services that write plans: the canonical text of the one given, or the one given with a pair put in.
+use format::limits::SOURCE_LIMIT;
 use placing::Placing;
 use placing::locate;
 use reader::Reading;
@@ -13,9 +14,6 @@ ghost use Rattle.format.specs.Writing.{fitsIn, canonicalBytes, insertBytes};
 ghost use Rattle.editor.specs.Promise.{Writes};
 ghost use Rattle.editor.specs.Ends.{Refuses, Settles, Short, Spared, Sound, Roomed, Finishes};
 
-// "bytes to write exceed the output's length or 65,536" is refused.
-const SOURCE_LIMIT: usize = 65536;
-
 // What is written of so short a source, key and value is never longer than a plan may be: a reference has four bytes or more and grows by one at the most, so five quarters of
 // the source, both texts and a head of nine bytes are at most 65,259.
 const SHORT_SOURCE: usize = 49000;
@@ -28,7 +26,7 @@ pub enum Writing {
     Refused { code: u8, at: usize },
 }
 
-// Whether so many bytes may be written to an output of this length.
+// Whether so many bytes may be written to an output of this length: "bytes to write exceed the output's length or 65,536" is refused.
 fn has_room(room: usize, length: usize) -> bool
     ensures { λ r. ⌜ r ≡ fitsIn room length ⌝ }
 {

@@ -2,7 +2,7 @@
 use mathlib.Core.Path.{_≡_}
 use mathlib.Core.List.{List, [], _∷_, _++_, map}
 use mathlib.Core.Bool.{Bool, true, false}
-use Prim.Native.Nat.{ℕ, suc, _+_, _-_}
+use Prim.Native.Nat.{ℕ, suc, _+_, _-_, _*_}
 use lib.ListN.{length, getD}
 use Rattle.decimal.specs.Complement.{pattern}
 use Rattle.format.specs.Kind.{Kind, tag, hasText}
@@ -31,6 +31,10 @@ words n = n .tag ∷ n .ordinal ∷ n .content ∷ n .size ∷ n .link ∷ n .en
 
 abbrev pub width : ℕ
 width = 6
+
+-- a word of a node, by its index in it
+abbrev pub wordAt : List ℕ → (node k : ℕ) → ℕ
+wordAt t node k = getD t (node * width + k) 0
 
 abbrev pub flat : List Node → List ℕ
 flat [] = []

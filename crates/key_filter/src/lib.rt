@@ -1,6 +1,6 @@
 // A Bloom filter of keys: which ones a container may have already. A key marks three bits in each of two words, by its hash, and no bit is ever taken back:
 // a key that has one of its bits unset is new, and any other may be an earlier one or not.
-use format::kind::Kind;
+use format::table::INT_TAG;
 use keys::KeyWords;
 ghost use mathlib.Core.Path.{_≡_};
 ghost use Prim.Native.Nat.{_+_, _*_, _^_, _≤_, _<_};
@@ -8,9 +8,6 @@ ghost use lib.ListN.{length, take, drop};
 ghost use Rattle.keys.specs.KeyWords.{textOf};
 ghost use Rattle.key_filter.specs.Hash.{mixed, spread, halfOf, restOf, mixedText, start, textHash, hashWords};
 ghost use Rattle.key_filter.specs.Filter.{maskOf, slotOf, Entered};
-
-// Word 0 of an integer key.
-const INT_TAG: u64 = Kind::INT as u64;
 
 // Odd numbers of 32 bits with no pattern.
 const LOW_FACTOR: u64 = 2654435761;

@@ -1,1 +1,2 @@
+pub mod NodeKeys
 pub mod SameWords

@@ -3,19 +3,28 @@ use mathlib.Core.Path.{_≡_}
 use mathlib.Core.List.{List, []}
 use mathlib.Core.Bool.{Bool, true, false, _&&_}
 use Prim.Native.Nat.{ℕ, _+_, _-_, _≤_}
-use lib.Dec.{leb, eqb}
+use lib.Dec.{leb, ltb, eqb}
 use lib.ListN.{length, take, drop}
 use Rattle.format.specs.Bytes.{sameBytes}
 use Rattle.format.specs.Kind.{Kind, tag}
 use Rattle.format.specs.Syntax.{intKey, stringKey, Key}
 use Rattle.format.specs.Keys.{integer}
 use Rattle.format.specs.Fits.{KeyFits}
-use Rattle.format.specs.Table.{word}
+use Rattle.format.specs.Table.{word, wordAt}
+use Rattle.format.specs.Reading.{capacityOf}
 use Rattle.keys.specs.declared.KeyWords.{KeyWords}
 
 -- the bytes of a text that stands at an offset
 unfoldable pub textOf : List ℕ → (offset size : ℕ) → List ℕ
 textOf s o n = elim (leb o (length s) && leb n (length s - o)) [ true ↦ take n (drop o s) | false ↦ [] ]
+
+-- words 0, 2 and 3 of a node
+abbrev pub keyWordsAt : List ℕ → (node : ℕ) → KeyWords
+keyWordsAt t i = record { tag = wordAt t i 0; content = wordAt t i 2; size = wordAt t i 3 }
+
+-- those of a node that the table has room for, or zeros
+unfoldable pub keyWordsIn : List ℕ → (node : ℕ) → KeyWords
+keyWordsIn t i = elim (ltb i (capacityOf t)) [ true ↦ keyWordsAt t i | false ↦ record { tag = 0; content = 0; size = 0 } ]
 
 -- "Two keys of one container are equal when both are i with equal value or both are s with equal bytes.", by their words
 unfoldable pub sameWords : (s : List ℕ) → KeyWords → (t : List ℕ) → KeyWords → Bool

@@ -1,11 +1,11 @@
 // Keys by the words of their nodes: when two are equal, each with the source that it stands in.
 use bytes_at::same_bytes;
-use format::kind::Kind;
+use format::table::CONTENT;
+use format::table::INT_TAG;
+use format::table::SIZE;
+use format::table::WIDTH;
 ghost use mathlib.Core.Path.{_≡_};
-ghost use Rattle.keys.specs.KeyWords.{textOf, sameWords};
-
-// Word 0 of an integer key.
-const INT_TAG: u64 = Kind::INT as u64;
+ghost use Rattle.keys.specs.KeyWords.{textOf, keyWordsIn, sameWords};
 
 // A key by words 0, 2 and 3 of its node.
 pub struct KeyWords {
@@ -28,6 +28,25 @@ pub fn text_of(source: &[u8], offset: u64, size: u64) -> &[u8]
     }
     let to = from + count;
     &source[from..to]
+}
+
+// The key that stands at a node; every word of a node that the table has not is 0.
+pub fn key_at(table: &[u64], node: usize) -> KeyWords
+    ensures { λ r. ⌜ r ≡ keyWordsIn (now (table .entry)) node ⌝ }
+{
+    if table.len() / WIDTH <= node {
+        return KeyWords {
+            tag: 0,
+            content: 0,
+            size: 0,
+        };
+    }
+    let k = node * WIDTH;
+    KeyWords {
+        tag: table[k],
+        content: table[k + CONTENT],
+        size: table[k + SIZE],
+    }
 }
 
 // Whether two keys are equal: two integers with one pattern, or two strings of the same bytes.

@@ -1,8 +1,8 @@
 // Reads a plan from standard input and prints a line for each node, or the refusal.
+use format::table::WIDTH;
 use libc::STDIN_FILENO;
 use libc::STDOUT_FILENO;
 use reader::Reading;
-use reader::WIDTH;
 ghost use Prim.Native.Nat.{_+_, _*_, _≤_};
 ghost use lib.ListN.{length};
 ghost use Rattle.format.specs.Table.{width};

@@ -15,7 +15,7 @@ use Rattle.format.specs.Keys.{hasKey}
 use Rattle.format.specs.Limits.{depthLimit}
 use Rattle.format.specs.Fits.{KeyFits, ScalarFits}
 use Rattle.format.specs.Answer.{Answer, ok, refused}
-use Rattle.format.specs.Table.{Node, width, flat, tableOf}
+use Rattle.format.specs.Table.{Node, width, wordAt, flat, tableOf}
 use Rattle.format.specs.Shows.{nodeAt}
 use Rattle.format.specs.Reading.{capacityOf}
 use Rattle.format.specs.Edit.{keys, newOrdinal}
@@ -23,7 +23,6 @@ use Rattle.format.specs.Writing.{Site, arrayAt, insertBytes}
 use Rattle.format.proofs.Results.{flat-length, tableOf-length}
 use Rattle.insertion.proofs.SiteRows.{in-plan, no-array, site-inside, site-depth}
 use Rattle.insertion.proofs.Refusing.{AtArray, AtPlace, WithPair, WithNewKey, WithDepth, WithNodes, RefusedRow, noArray, noPlace, unfit, sameKeyed, tooDeep, noNodes, row-refused, equal-key, has-equal}
-use Rattle.reader.specs.Nodes.{wordAt}
 use Rattle.keys.specs.declared.KeyWords.{KeyWords}
 use Rattle.placing.specs.Words.{ArrayIs, GapBounds, BeforeIs, carriers, Walks, keyAmong}
 use Rattle.placing.specs.PairTexts.{ArePair}

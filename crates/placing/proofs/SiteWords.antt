@@ -14,7 +14,7 @@ use Rattle.format.specs.Syntax.{intKey, stringKey, array, Key, Container, Value
 use Rattle.format.specs.Keys.{hasKey}
 use Rattle.format.specs.Fits.{KeyFits, SoundIn, Valid}
 use Rattle.format.specs.Answer.{ok}
-use Rattle.format.specs.Table.{Node, words, width, flat, textOffset, keyNode, branchNode, table, tableIn, targetOf, tableOf, valueOffset, nextOffset}
+use Rattle.format.specs.Table.{Node, words, width, wordAt, flat, textOffset, keyNode, branchNode, table, tableIn, targetOf, tableOf, valueOffset, nextOffset}
 use Rattle.format.specs.Shows.{ordinalsOf, upFrom, nodeAt}
 use Rattle.format.specs.Edit.{keys, ordinalsUpto, ordinalsWithin, ordinalsBefore, newOrdinal}
 use Rattle.format.specs.Writing.{Site, arrayAt}
@@ -26,11 +26,11 @@ use Rattle.format.proofs.Ordinals.{tableIn-ordinals}
 use Rattle.format.proofs.Results.{tableOf-length, flat-length}
 use Rattle.insertion.proofs.Located.{Locates, found, inside, LocatesIn, first, later, locates}
 use Rattle.insertion.proofs.SiteRows.{in-plan, site-valid, site-inside}
-use Rattle.reader.specs.Nodes.{wordAt}
-use Rattle.keys.specs.KeyWords.{Held}
+use Rattle.keys.specs.KeyWords.{keyWordsAt, keyWordsIn, Held}
+use Rattle.keys.proofs.NodeKeys.{key-there}
 use Rattle.keys.specs.declared.KeyWords.{KeyWords}
 use Rattle.keys.proofs.SameWords.{words-same}
-use Rattle.placing.specs.Words.{pairNode, carriers, GapBounds, keyWordsAt, Walks, keyAmong}
+use Rattle.placing.specs.Words.{pairNode, carriers, GapBounds, Walks, keyAmong}
 use Rattle.placing.proofs.PairParts.{upto}
 
 -- ---- the words of a list of nodes
@@ -178,6 +178,9 @@ module _ (v : Value) (t rest : List ℕ) (e : t ≡ flat (tableOf v) ++ rest) wh
       ∙ ap length (tableIn-ordinals (targetOf v) (upto p ps) o i n b) ∙ up-length n (ordinalsIn own (upto p ps)) ∙ upto-ordinals p ps
 
   -- ---- keys
+  key-stands : (i : ℕ) → i < nodes v → keyWordsIn t i ≡ keyWordsAt t i
+  key-stands i h = key-there t i (omega (arith, long, h))
+
   module _ (source : List ℕ) where
     key-held : (j : Key) (o i : ℕ) (r : List ℕ) → i < nodes v → nodeAt (tableOf v) i ≡ keyNode o i j → KeyFits j → drop o source ≡ writeKey j r → Held source j (keyWordsAt t i)
     key-held (intKey x) o i r h f b d = record {
@@ -204,7 +207,9 @@ module _ (v : Value) (t rest : List ℕ) (e : t ≡ flat (tableOf v) ++ rest) wh
       unfolding write
       pairs-among none o i n r c js g h d s = refl
       pairs-among (pair j u ps) o i n r c js g h d s =
-          ap₂ _||_ (words-same text w source (keyWordsAt t i) k j held (key-held j o i (write u (writePairs ps r)) (omega arith) (at-first (tableOf v) i (keyNode o i j) _ _ (g .here)) (s .0) d))
+          ap₂ _||_ (words-same text w source (keyWordsIn t i) k j held
+          (subst (Held source j) (sym (key-stands i (omega arith)))
+          (key-held j o i (write u (writePairs ps r)) (omega arith) (at-first (tableOf v) i (keyNode o i j) _ _ (g .here)) (s .0) d)))
           (ap (λ (m : ℕ). keyAmong source text w t m (count ps)) (next-word o i n j u ps g h)
           ∙ pairs-among ps (nextOffset o j u) (suc (i + nodes u)) (n + ordinals own u) r c (j ∷ js) (others-in (tableOf v) (targetOf v) o i n j u ps g) (omega arith) (others-text source o j u (writePairs ps r) d) (s .4))
 

@@ -10,11 +10,10 @@ use lib.Dec.{eqb}
 use lib.ListN.{length, getD}
 use borrow.Author.Tests.{eq-eqb, ne-eqb}
 use Rattle.format.specs.Tree.{one}
-use Rattle.format.specs.Table.{width}
-use Rattle.reader.specs.Nodes.{wordAt}
-use Rattle.keys.specs.KeyWords.{sameWords}
+use Rattle.format.specs.Table.{width, wordAt}
+use Rattle.keys.specs.KeyWords.{keyWordsIn, sameWords}
 use Rattle.keys.specs.declared.KeyWords.{KeyWords}
-use Rattle.placing.specs.Words.{pairNode, carriers, keyWordsAt, Walks, keyAmong}
+use Rattle.placing.specs.Words.{pairNode, carriers, Walks, keyAmong}
 
 pub word-first : (t : List ℕ) (i : ℕ) → getD t (i * width) 0 ≡ wordAt t i 0
 word-first t i = ap (λ (n : ℕ). getD t n 0) (sym (add-zero (i * width)))
@@ -34,9 +33,6 @@ module _ (t : List ℕ) (i : ℕ) where
 
 -- ---- pairs walked for their keys
 
-pub key-words : (t : List ℕ) (i : ℕ) → record { tag = getD t (i * width) 0; content = getD t (i * width + 2) 0; size = getD t (i * width + 3) 0 } ≡ keyWordsAt t i
-key-words t i = ap (λ (n : ℕ). record { tag = n; content = wordAt t i 2; size = wordAt t i 3 }) (word-first t i)
-
 pub walks-first : (t : List ℕ) (i n : ℕ) → 0 < n → Walks t i n → i * width + (width + 5) < length t
 walks-first t i zero h w = absurd (omega arith)
 walks-first t i (suc n) h w = w .0
@@ -46,11 +42,11 @@ walks-next t i zero h w = absurd (omega arith)
 walks-next t i (suc n) h w = let e : suc n - 1 ≡ n = omega arith in subst (Walks t (wordAt t i (width + 5))) (sym e) (w .1)
 
 module _ (s k : List ℕ) (w : KeyWords) (t : List ℕ) where
-  pub among-found : (i n : ℕ) → 0 < n → sameWords k w s (keyWordsAt t i) ≡ true → keyAmong s k w t i n ≡ true
+  pub among-found : (i n : ℕ) → 0 < n → sameWords k w s (keyWordsIn t i) ≡ true → keyAmong s k w t i n ≡ true
   among-found i zero h e = absurd (omega arith)
   among-found i (suc n) h e = ap (λ (b : Bool). b || keyAmong s k w t (wordAt t i (width + 5)) n) e
 
-  pub among-next : (i n : ℕ) → 0 < n → sameWords k w s (keyWordsAt t i) ≡ false → keyAmong s k w t i n ≡ keyAmong s k w t (wordAt t i (width + 5)) (n - 1)
+  pub among-next : (i n : ℕ) → 0 < n → sameWords k w s (keyWordsIn t i) ≡ false → keyAmong s k w t i n ≡ keyAmong s k w t (wordAt t i (width + 5)) (n - 1)
   among-next i zero h e = absurd (omega arith)
   among-next i (suc n) h e =
       let f : n ≡ suc n - 1 = omega arith in
@@ -62,10 +58,10 @@ module _ (s k : List ℕ) (w : KeyWords) (t : List ℕ) where
     pub same : keyAmong s k w t first count ≡ keyAmong s k w t node left
 
   module _ {first count node left : ℕ} (g : Walking first count node left) where
-    pub walking-found : 0 < left → sameWords k w s (keyWordsAt t node) ≡ true → not (keyAmong s k w t first count) ≡ false
+    pub walking-found : 0 < left → sameWords k w s (keyWordsIn t node) ≡ true → not (keyAmong s k w t first count) ≡ false
     walking-found h e = ap not (g .same ∙ among-found node left h e)
 
-    pub walking-more : 0 < left → sameWords k w s (keyWordsAt t node) ≡ false → Walking first count (wordAt t node (width + 5)) (left - 1)
+    pub walking-more : 0 < left → sameWords k w s (keyWordsIn t node) ≡ false → Walking first count (wordAt t node (width + 5)) (left - 1)
     walking-more h e = record { walks = walks-next t node left h (g .walks); same = g .same ∙ among-next node left h e }
 
     pub walking-all : left ≤ 0 → not (keyAmong s k w t first count) ≡ true

@@ -7,9 +7,8 @@ use lib.Dec.{eqb}
 use lib.ListN.{length}
 use Rattle.format.specs.Kind.{Kind, tag}
 use Rattle.format.specs.Tree.{one}
-use Rattle.format.specs.Table.{width}
-use Rattle.reader.specs.Nodes.{wordAt}
-use Rattle.keys.specs.KeyWords.{sameWords}
+use Rattle.format.specs.Table.{width, wordAt}
+use Rattle.keys.specs.KeyWords.{keyWordsIn, sameWords}
 use Rattle.keys.specs.declared.KeyWords.{KeyWords}
 use Rattle.placing.specs.declared.site.Site.{Site}
 use Rattle.placing.specs.declared.site.Gap.{Gap}
@@ -63,10 +62,6 @@ GapIs t i n o p Gap.Beyond = n < p
 
 -- ---- 9
 
--- words 0, 2 and 3 of a node
-abbrev pub keyWordsAt : List ℕ → (node : ℕ) → KeyWords
-keyWordsAt t i = record { tag = wordAt t i 0; content = wordAt t i 2; size = wordAt t i 3 }
-
 -- each of so many pairs from node i on has its words
 abbrev pub Walks : List ℕ → (i count : ℕ) → Type 0
 Walks t i zero = Unit {0}
@@ -75,4 +70,4 @@ Walks t i (suc n) = (i * width + (width + 5) < length t) × Walks t (wordAt t i 
 -- whether a key, whose words and text are known, is equal to a key of so many pairs
 abbrev pub keyAmong : (source key : List ℕ) → KeyWords → (table : List ℕ) → (i count : ℕ) → Bool
 keyAmong s k w t i zero = false
-keyAmong s k w t i (suc n) = sameWords k w s (keyWordsAt t i) || keyAmong s k w t (wordAt t i (width + 5)) n
+keyAmong s k w t i (suc n) = sameWords k w s (keyWordsIn t i) || keyAmong s k w t (wordAt t i (width + 5)) n

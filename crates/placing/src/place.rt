@@ -11,7 +11,7 @@ use crate::steps::shallow;
 use crate::steps::two_more;
 use crate::texts::Texts;
 use crate::texts::pair_texts;
-use reader::WIDTH;
+use format::table::WIDTH;
 use rewriting::inserted::Spot;
 use scanner::Scan;
 use tokens::token;

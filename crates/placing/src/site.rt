@@ -1,17 +1,14 @@
 // The array asked for and the place in it, by the table of the plan that was read.
-use format::kind::Kind;
-use reader::WIDTH;
+use format::table::ARRAY_TAG;
+use format::table::LINK;
+use format::table::ORDINAL;
+use format::table::PAIR_END;
+use format::table::WIDTH;
 ghost use mathlib.Core.Path.{_≡_};
 ghost use Prim.Native.Nat.{_+_, _*_, _≤_};
 ghost use lib.ListN.{length};
 ghost use Rattle.format.specs.Table.{width};
 ghost use Rattle.placing.specs.Words.{pairNode, carriers, SiteIs, Walkable, GapBounds, GapIs};
-
-// Word 0 of an array.
-const ARRAY_TAG: u64 = Kind::ARRAY as u64;
-
-// From a key's node on: word 5 of the value's node behind it says where the pair ends.
-pub(crate) const PAIR_END: usize = WIDTH + 5;
 
 // What stands at a node: an array with its count of pairs and its ordinal, or something else.
 pub enum Site {
@@ -38,8 +35,8 @@ pub(crate) fn array_at(table: &[u64], nodes: usize, node: usize) -> Site
         return Site::Other;
     }
     Site::Array {
-        count: table[k + 4],
-        ordinal: table[k + 1],
+        count: table[k + LINK],
+        ordinal: table[k + ORDINAL],
     }
 }
 
@@ -65,7 +62,7 @@ fn carried(table: &[u64], first: usize, count: usize) -> usize
     let mut taken = 0;
     let mut i = 0;
     while i < count {
-        if table[(first + i) * WIDTH + 1] != 0 {
+        if table[(first + i) * WIDTH + ORDINAL] != 0 {
             taken += 1;
         }
         i += 1;

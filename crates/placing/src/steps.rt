@@ -1,8 +1,10 @@
 // The steps of inserting that only pass or fail: 9, 8 and 7.
-use crate::site::PAIR_END;
+use format::limits::DEPTH_LIMIT;
+use format::table::PAIR_END;
+use format::table::WIDTH;
 use keys::KeyWords;
+use keys::key_at;
 use keys::same_key;
-use reader::WIDTH;
 ghost use mathlib.Core.Path.{_≡_};
 ghost use mathlib.Core.Bool.{not};
 ghost use Prim.Native.Nat.{suc, _+_, _*_, _≤_};
@@ -10,28 +12,12 @@ ghost use lib.Dec.{leb, ltb};
 ghost use lib.ListN.{length};
 ghost use Rattle.format.specs.Limits.{depthLimit};
 ghost use Rattle.format.specs.Table.{width};
-ghost use Rattle.placing.specs.Words.{keyWordsAt, keyAmong, Walks};
+ghost use Rattle.placing.specs.Words.{keyAmong, Walks};
 ghost use Rattle.placing.specs.Checks.{CheckIs};
-
-// "to a depth of 64".
-const DEPTH_LIMIT: usize = 64;
 
 pub enum Check {
     Passed,
     Failed,
-}
-
-// The key that stands at a node.
-fn key_at(table: &[u64], node: usize) -> KeyWords
-    requires { ⌜ node * width + width ≤ length (now table) ⌝ }
-    ensures { λ r. ⌜ r ≡ keyWordsAt (now (table .entry)) node ⌝ }
-{
-    let k = node * WIDTH;
-    KeyWords {
-        tag: table[k],
-        content: table[k + 2],
-        size: table[k + 3],
-    }
 }
 
 // 9, "new key present": no key of so many pairs, which stand from node `first` on, is equal to the new one.

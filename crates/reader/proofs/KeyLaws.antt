@@ -1,5 +1,5 @@
 -- Laws of keys and of the pairs that stand in the table. Assumes nothing.
-use Prim.Native.Nat.{ℕ, _+_, _≤_, _<_}
+use Prim.Native.Nat.{ℕ, _+_, _*_, _≤_, _<_}
 use native.Mathlib.Omega.{arith}
 use mathlib.Core.Path.{_≡_, refl, sym, ap, _∙_, subst}
 use mathlib.Core.Bool.{Bool, true, false, _||_}
@@ -12,18 +12,18 @@ use Rattle.format.specs.Kind.{Kind, tag}
 use Rattle.format.specs.Syntax.{Quoted, intKey, stringKey, Key}
 use Rattle.format.specs.Keys.{integer, sameKey, hasKey}
 use Rattle.format.specs.Fits.{KeyFits}
-use Rattle.format.specs.Table.{width, word}
+use Rattle.format.specs.Table.{width, wordAt, word}
 use Rattle.format.proofs.Words.{same-word}
 use Rattle.keys.specs.declared.KeyWords.{KeyWords}
-use Rattle.keys.specs.KeyWords.{sameWords, Held}
+use Rattle.keys.specs.KeyWords.{keyWordsAt, keyWordsIn, sameWords, Held}
+use Rattle.keys.proofs.NodeKeys.{key-there}
 use Rattle.keys.proofs.SameWords.{words-same}
 use Rattle.key_filter.specs.Hash.{hashWords, hashKey}
 use Rattle.key_filter.specs.Filter.{marked, Entered, Grows, AllMarked}
 use Rattle.key_filter.proofs.Hashing.{hash-held}
 use Rattle.key_filter.proofs.Marking.{grows-none, grows-on, entered-grows, entered-marked, all-grow, all-snoc, all-none, new-key}
 use Rattle.reader.specs.declared.seen.Seen.{Seen}
-use Rattle.reader.specs.Nodes.{wordAt}
-use Rattle.reader.specs.KeysSeen.{rank, keyWords, keyOr, Chain, none, pair, Walk, KeyUnder, Under, Known, unmarkedFrom, above, rises, next, MarkedAll, Tested}
+use Rattle.reader.specs.KeysSeen.{rank, keyOr, Chain, none, pair, Walk, KeyUnder, Under, Known, unmarkedFrom, above, rises, next, MarkedAll, Tested}
 
 -- ---- pairs in the table
 
@@ -39,7 +39,7 @@ record Stepped (s t : List ℕ) (i n : ℕ) (ks : List Key) : Type 0 where
   key : Key
   rest : List Key
   is : ks ≡ key ∷ rest
-  held : Held s key (keyWords t i)
+  held : Held s key (keyWordsAt t i)
   on : i + 1 < wordAt t i (width + 5)
   chain : Chain s t (wordAt t i (width + 5)) n rest
 
@@ -56,6 +56,10 @@ module _ {s t : List ℕ} {i n : ℕ} (a : Walk s t i n) (lt : i < n) where
   pub walk-in : wordAt t i (width + 5) ≤ n
   walk-in = chain-le (stepped (a .chain) lt .chain)
 
+  -- so the table has its key
+  pub walk-key : n * width ≤ length t → keyWordsIn t i ≡ keyWordsAt t i
+  walk-key h = key-there t i (omega (arith, walk-on, walk-in))
+
 -- the keys that are left to compare
 record Rest (s t : List ℕ) (i n : ℕ) (k : Key) (all : List Key) : Type 0 where
   keys : List Key
@@ -71,9 +75,9 @@ module _ {s t : List ℕ} {first n : ℕ} {w : KeyWords} where
   left-none a = record { walk = a; left = λ k ks h c. record { keys = ks; chain = c; same = refl } }
 
   module _ {i : ℕ} (l : Left s t first n w i) (lt : i < n) where
-    module _ (r : Bool) (e : r ≡ sameWords s w s (keyWords t i)) where
-      decided : (j k : Key) → Held s j (keyWords t i) → Held s k w → r ≡ sameKey k j
-      decided j k h g = e ∙ words-same s w s (keyWords t i) k j g h
+    module _ (r : Bool) (e : r ≡ sameWords s w s (keyWordsAt t i)) where
+      decided : (j k : Key) → Held s j (keyWordsAt t i) → Held s k w → r ≡ sameKey k j
+      decided j k h g = e ∙ words-same s w s (keyWordsAt t i) k j g h
 
       pub left-found : r ≡ true → (k : Key) (ks : List Key) → Held s k w → Chain s t first n ks → true ≡ hasKey k ks
       left-found q k ks h c =
@@ -100,9 +104,12 @@ module _ {s t : List ℕ} {first n : ℕ} {w : KeyWords} where
 
 -- ---- marking them
 
-pub or-in : (t : List ℕ) (i n : ℕ) (w : KeyWords) → i < n → keyOr t i n w ≡ keyWords t i
+pub or-in : (t : List ℕ) (i n : ℕ) (w : KeyWords) → i < n → keyOr t i n w ≡ keyWordsAt t i
 unfolding keyOr
 or-in t i n w l = rw (keyOr, lt-ltb i n l)
+
+pub or-key : (t : List ℕ) (i n : ℕ) (w : KeyWords) → i < n → n * width ≤ length t → keyWordsIn t i ≡ keyOr t i n w
+or-key t i n w l h = key-there t i (omega (arith, l, h)) ∙ sym (or-in t i n w l)
 
 pub or-behind : (t : List ℕ) (i n : ℕ) (w : KeyWords) → n ≤ i → keyOr t i n w ≡ w
 unfolding keyOr
@@ -165,7 +172,7 @@ module _ {s t m₀ m : List ℕ} {first n b i : ℕ} (l : Marking s t m₀ m fir
                 keys = p .rest;
                 chain = p .chain;
                 rest = λ m′ g a.
-                    let mine = g .keeps (hashKey first (p .key)) (own (keyWords t i) (or-in t i n w′ lt) (p .key) (p .held)) in
+                    let mine = g .keeps (hashKey first (p .key)) (own (keyWordsAt t i) (or-in t i n w′ lt) (p .key) (p .held)) in
                     x .rest m′ (grows-on (entered-grows d) g) (subst (AllMarked m′ first) (sym (p .is)) (mine, a));
               };
         }

@@ -17,7 +17,7 @@ use Rattle.format.specs.Syntax.{intKey, stringKey, Key, writeNumber, writeKey}
 use Rattle.format.specs.Keys.{hasKey}
 use Rattle.format.specs.Answer.{Answer, ok, refused, _>>=_, require}
 use Rattle.format.specs.Read.{keyText, readKey}
-use Rattle.format.specs.Table.{Node, words, width, keyNode, textOffset}
+use Rattle.format.specs.Table.{Node, words, width, wordAt, keyNode, textOffset}
 use Rattle.format.proofs.Texts.{KeyKind, is-int, is-string, keyText-ok}
 use Rattle.format.proofs.Fronts.{number-length, quoted-length}
 use Rattle.format.proofs.Places.{quoted-text}
@@ -28,12 +28,12 @@ use Rattle.scanner.proofs.Numbers.{unfit-of}
 use Rattle.reader.specs.declared.cursor.Cursor.{Cursor}
 use Rattle.reader.specs.declared.cursor.Step.{Step}
 use Rattle.keys.specs.declared.KeyWords.{KeyWords}
-use Rattle.keys.specs.KeyWords.{keyKind, Says, Held}
+use Rattle.keys.specs.KeyWords.{keyWordsAt, keyKind, Says, Held}
 use Rattle.reader.specs.Texts.{kindFor, isArrayTag, keyTold}
-use Rattle.reader.specs.Nodes.{nodeOf, wordAt, Placed}
+use Rattle.reader.specs.Nodes.{nodeOf, Placed}
 use Rattle.key_filter.specs.Filter.{Grows}
 use Rattle.reader.specs.declared.seen.Seen.{Seen}
-use Rattle.reader.specs.KeysSeen.{keyWords, Known, next, Tested}
+use Rattle.reader.specs.KeysSeen.{Known, next, Tested}
 use Rattle.reader.specs.Steps.{Fit, GoodKey, MeetsKey, Remembers, keyAt, refusalOf}
 use Rattle.reader.proofs.Tagged.{position-is, tag-end, tag-other, tag-is, key-kind-is, key-any, one-of}
 use Rattle.reader.proofs.Bodies.{key-told, key-of-int, key-of-string}
@@ -89,7 +89,7 @@ module _ (s : List ℕ) (at b : ℕ) (may : mayBeKey b ≡ true) (here : at < le
 
 -- ---- the words of a key that is placed
 
-placed-words : (t t′ : List ℕ) (c c′ : Cursor) (b : ℕ) (x : Text) → c .node * width + width ≤ length t → Placed t t′ c b x false c′ → keyWords t′ (c .node) ≡ record { tag = b; content = x .content; size = x .size }
+placed-words : (t t′ : List ℕ) (c c′ : Cursor) (b : ℕ) (x : Text) → c .node * width + width ≤ length t → Placed t t′ c b x false c′ → keyWordsAt t′ (c .node) ≡ record { tag = b; content = x .content; size = x .size }
 placed-words t t′ c c′ b x room p = of-words (wordAt t′ (c .node) 0) b (wordAt t′ (c .node) 2) (x .content) (wordAt t′ (c .node) 3) (x .size) (word-is 0 (lit< tt)) (word-is 2 (lit< tt)) (word-is 3 (lit< tt))
   where
     ws : List ℕ
@@ -115,7 +115,7 @@ one-more s t t′ m m′ first capacity seen c c′ b x r found fit room d p =
           subst (λ (w : KeyWords). Known (next seen w) m′ first (ks ++ (k ∷ []))) (sym same) (d .known k ks (subst (Held s k) same h) l u);
     }
   where
-    same : keyWords t′ (c .node) ≡ record { tag = b; content = x .content; size = x .size }
+    same : keyWordsAt t′ (c .node) ≡ record { tag = b; content = x .content; size = x .size }
     same = placed-words t t′ c c′ b x (omega (arith, fit .table)) p
 
 -- ---- the steps

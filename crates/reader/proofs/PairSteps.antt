@@ -15,19 +15,19 @@ use Rattle.format.specs.Syntax.{intKey, stringKey, Key, Value, Values, own, wri
 use Rattle.format.specs.Keys.{sameKey, hasKey}
 use Rattle.format.specs.Answer.{Answer, ok, refused, _>>=_}
 use Rattle.format.specs.Read.{readPairs, setting}
-use Rattle.format.specs.Table.{words, width, flat, keyNode, valueOffset, table, tableIn}
+use Rattle.format.specs.Table.{words, width, wordAt, flat, keyNode, valueOffset, table, tableIn}
 use Rattle.format.proofs.Inversion.{key-written, value-written}
 use Rattle.format.proofs.Results.{flat-length}
 use Rattle.format.proofs.Rows.{tableIn-length}
+use Rattle.keys.proofs.NodeKeys.{key-there}
 use Rattle.reader.specs.declared.cursor.Cursor.{Cursor}
 use Rattle.reader.specs.declared.cursor.Step.{Step}
 use Rattle.key_filter.specs.Filter.{Grows}
 use Rattle.reader.specs.declared.seen.Seen.{Seen}
 use Rattle.keys.specs.declared.KeyWords.{KeyWords}
-use Rattle.keys.specs.KeyWords.{Held}
+use Rattle.keys.specs.KeyWords.{keyWordsAt, keyWordsIn, Held}
 use Rattle.reader.specs.Texts.{isArrayTag}
-use Rattle.reader.specs.Nodes.{wordAt}
-use Rattle.reader.specs.KeysSeen.{keyWords, Chain, none, pair, Walk, Known, next}
+use Rattle.reader.specs.KeysSeen.{Chain, none, pair, Walk, Known, next}
 use Rattle.reader.specs.Steps.{Points, Takes, TakesIn, Fit, Kept, WroteIn, GoodValue, GoodPairs, GoodKey, MeetsPairs, Earlier, Remembers, innerAt, valueAt, pairsAt, keyAt}
 use Rattle.key_filter.proofs.Marking.{grows-none, grows-on}
 use Rattle.reader.proofs.KeyLaws.{chain-le, known-grows}
@@ -47,10 +47,10 @@ has-snoc x k [] = refl
 has-snoc x k (j ∷ ks) = ap (λ (b : Bool). sameKey x j || b) (has-snoc x k ks) ∙ or-swap (sameKey x j) (sameKey x k) (hasKey x ks)
 
 -- the key at a node, where the words are as they were
-held-kept : {s : List ℕ} (t t′ : List ℕ) (k : Key) (i : ℕ) → ((j : ℕ) → j < width → wordAt t′ i j ≡ wordAt t i j) → Held s k (keyWords t i) → Held s k (keyWords t′ i)
+held-kept : {s : List ℕ} (t t′ : List ℕ) (k : Key) (i : ℕ) → ((j : ℕ) → j < width → wordAt t′ i j ≡ wordAt t i j) → Held s k (keyWordsAt t i) → Held s k (keyWordsAt t′ i)
 held-kept t t′ k i same h = rw (same 0 (lit< tt), same 2 (lit< tt), same 3 (lit< tt)) h
 
-chain-more : {s t : List ℕ} (t′ : List ℕ) {i n : ℕ} {ks : List Key} (k : Key) (m : ℕ) → Kept t t′ n → Held s k (keyWords t′ n) → wordAt t′ n (width + 5) ≡ m → n + 1 < m
+chain-more : {s t : List ℕ} (t′ : List ℕ) {i n : ℕ} {ks : List Key} (k : Key) (m : ℕ) → Kept t t′ n → Held s k (keyWordsAt t′ n) → wordAt t′ n (width + 5) ≡ m → n + 1 < m
     → Chain s t i n ks → Chain s t′ i m (ks ++ (k ∷ []))
 chain-more t′ k m same h e l none = pair h e l none
 chain-more {t = t} t′ k m same h e l (pair {i = i} {k = j} a b o c) =
@@ -166,7 +166,7 @@ module _ {s t₀ t m₀ m : List ℕ} {capacity container count : ℕ} {c₀ c :
 
       module _ (t₂ : List ℕ) (after : Cursor) (g : GoodValue s t₁ t₂ capacity mid (valueAt s capacity mid) after) (l₁ : length t₁ ≡ length t) (l₂ : length t₂ ≡ length t₁)
           (m₁ m₂ : List ℕ) (n₁ : length m₁ ≡ length m) (n₂ : length m₂ ≡ length m₁) (step : Step) (done : step ≡ Step.Done mid) (a : Remembers s t t₁ m m₁ (c₀ .node) (c .node) seen step) (b : Grows m₁ m₂)
-          (seen′ : Seen) (w : KeyWords) (of-key : w ≡ keyWords t₁ (c .node)) (e : seen′ ≡ next seen w) where
+          (seen′ : Seen) (w : KeyWords) (of-key : w ≡ keyWordsIn t₁ (c .node)) (e : seen′ ≡ next seen w) where
         value-long : after .at ≡ mid .at + length (write (g .value) [])
         unfolding valueAt
         value-long =
@@ -212,8 +212,8 @@ module _ {s t₀ t m₀ m : List ℕ} {capacity container count : ℕ} {c₀ c :
               keys = r .keys .keys ++ (k .key ∷ []);
               chain = chain-more t₂ (k .key) (after .node) same-below (held-kept t₁ t₂ (k .key) (c .node) (λ j h. g .kept (c .node * width + j) (omega (arith, k .node))) (k .held)) ends (omega (arith, g .node, k .node, nodes-some (g .value))) (r .keys .chain);
               same = λ x. ap (λ (b : Bool). sameKey x (k .key) || b) (r .keys .same x) ∙ sym (has-snoc x (k .key) (r .keys .keys));
-              known = subst (λ (z : Seen). Known z m₂ (c₀ .node) (r .keys .keys ++ (k .key ∷ []))) (sym (e ∙ ap (next seen) of-key))
-                  (known-grows (next seen (keyWords t₁ (c .node))) m₁ m₂ (c₀ .node) (r .keys .keys ++ (k .key ∷ [])) b (a .known mid done (k .key) (r .keys .keys) (k .held) (r .keys .chain) (r .keys .known)));
+              known = subst (λ (z : Seen). Known z m₂ (c₀ .node) (r .keys .keys ++ (k .key ∷ []))) (sym (e ∙ ap (next seen) (of-key ∙ key-there t₁ (c .node) (omega (arith, k .node, k .fits, r .fit, l₁)))))
+                  (known-grows (next seen (keyWordsAt t₁ (c .node))) m₁ m₂ (c₀ .node) (r .keys .keys ++ (k .key ∷ [])) b (a .known mid done (k .key) (r .keys .keys) (k .held) (r .keys .chain) (r .keys .known)));
             }
 
         writes : (to : ℕ → ℕ) → Points to t₀ (c₀ .node) (c₀ .ordinal) → TakesIn to (c₀ .node) (suc (c₀ .ordinal)) (snoc (r .pairs) (k .key) (g .value))

@@ -11,8 +11,8 @@ use lib.Seq.{sets, set-set, set-comm, getD-set-same, getD-set-other, length-sets
 use Rattle.decimal.proofs.Decide.{Order, below, above, order}
 use Rattle.decimal.proofs.Stores.{sets-append}
 use Rattle.format.specs.Tree.{one}
-use Rattle.format.specs.Table.{width, taken}
-use Rattle.reader.specs.Nodes.{wordAt, CarrierIn}
+use Rattle.format.specs.Table.{width, wordAt, taken}
+use Rattle.reader.specs.Nodes.{CarrierIn}
 use Rattle.reader.specs.Steps.{Points, Kept}
 
 -- ---- runs of stores

@@ -7,10 +7,9 @@ use lib.Dec.{eqb, ltb, leb}
 use Rattle.format.specs.Kind.{Kind, tag}
 use Rattle.format.specs.Syntax.{intKey, stringKey, Key}
 use Rattle.format.specs.Keys.{integer, hasKey}
-use Rattle.format.specs.Table.{width, word}
+use Rattle.format.specs.Table.{width, word, wordAt}
 use Rattle.keys.specs.declared.KeyWords.{KeyWords}
-use Rattle.keys.specs.KeyWords.{Held}
-use Rattle.reader.specs.Nodes.{wordAt}
+use Rattle.keys.specs.KeyWords.{keyWordsAt, Held}
 use Rattle.key_filter.specs.Filter.{Grows, AllMarked}
 use Rattle.reader.specs.declared.seen.Seen.{Seen}
 
@@ -18,18 +17,14 @@ use Rattle.reader.specs.declared.seen.Seen.{Seen}
 abbrev pub rank : ℕ → ℕ
 rank w = (w + 9223372036854775808) % 2 ^ 64
 
--- words 0, 2 and 3 of a node
-abbrev pub keyWords : List ℕ → (node : ℕ) → KeyWords
-keyWords t node = record { tag = wordAt t node 0; content = wordAt t node 2; size = wordAt t node 3 }
-
 -- those of node i, or these behind node n
 unfoldable pub keyOr : List ℕ → (i n : ℕ) → KeyWords → KeyWords
-keyOr t i n w = elim (ltb i n) [ true ↦ keyWords t i | false ↦ w ]
+keyOr t i n w = elim (ltb i n) [ true ↦ keyWordsAt t i | false ↦ w ]
 
 -- from node i on pairs stand up to node n, with these keys; a pair ends where word 5 of its value says
 pub data Chain (s t : List ℕ) : ℕ → ℕ → List Key → Type 0 where
   none : {n : ℕ} → Chain s t n n []
-  pair : {i n next : ℕ} {k : Key} {ks : List Key} → Held s k (keyWords t i) → wordAt t i (width + 5) ≡ next → i + 1 < next → Chain s t next n ks → Chain s t i n (k ∷ ks)
+  pair : {i n next : ℕ} {k : Key} {ks : List Key} → Held s k (keyWordsAt t i) → wordAt t i (width + 5) ≡ next → i + 1 < next → Chain s t next n ks → Chain s t i n (k ∷ ks)
 
 pub record Walk (s t : List ℕ) (first node : ℕ) : Type 0 where
   pub keys : List Key

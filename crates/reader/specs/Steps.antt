@@ -12,17 +12,16 @@ use Rattle.format.specs.Syntax.{Key, Value, Values, own}
 use Rattle.format.specs.Keys.{hasKey}
 use Rattle.format.specs.Answer.{Answer, ok, refused}
 use Rattle.format.specs.Read.{setting, Inner, readKey, readPairs, readBody, readValue, read}
-use Rattle.format.specs.Table.{words, width, flat, keyNode, table, tableIn, tableOf}
+use Rattle.format.specs.Table.{words, width, wordAt, flat, keyNode, table, tableIn, tableOf}
 use Rattle.scanner.specs.declared.Scan.{Scan}
 use Rattle.reader.specs.declared.cursor.Cursor.{Cursor}
 use Rattle.reader.specs.declared.cursor.Step.{Step}
 use Rattle.reader.specs.declared.cursor.Gate.{Gate}
-use Rattle.keys.specs.KeyWords.{Held}
+use Rattle.keys.specs.KeyWords.{keyWordsAt, Held}
 use Rattle.key_filter.specs.Filter.{Grows}
 use Rattle.reader.specs.declared.seen.Seen.{Seen}
 use Rattle.reader.specs.Texts.{kindFor, isArrayTag}
-use Rattle.reader.specs.Nodes.{wordAt}
-use Rattle.reader.specs.KeysSeen.{keyWords, Chain, Known, next}
+use Rattle.reader.specs.KeysSeen.{Chain, Known, next}
 
 -- ---- ordinals and the nodes that take them
 
@@ -132,7 +131,7 @@ pub record GoodKey (s t t′ : List ℕ) (capacity : ℕ) (c : Cursor) (o : Answ
   pub ordinal : c′ .ordinal ≡ c .ordinal
   pub levels : c′ .levels ≡ c .levels
   pub table : t′ ≡ sets t (c .node * width) (words (keyNode (c .at) (c .node) key))
-  pub held : Held s key (keyWords t′ (c .node))
+  pub held : Held s key (keyWordsAt t′ (c .node))
 
 abbrev pub MeetsKey : (s t t′ : List ℕ) (capacity : ℕ) (c : Cursor) → Answer (Key × List ℕ) → Step → Type 0
 MeetsKey s t t′ capacity c o (Step.Done c′) = GoodKey s t t′ capacity c o c′
@@ -148,8 +147,8 @@ pub record Earlier (s t m : List ℕ) (first node : ℕ) (seen : Seen) (earlier 
 -- what is known of the keys once one more is read
 pub record Remembers (s t t′ m m′ : List ℕ) (first node : ℕ) (seen : Seen) (r : Step) : Type 0 where
   pub grows : Grows m m′
-  pub known : (c′ : Cursor) → r ≡ Step.Done c′ → (k : Key) (ks : List Key) → Held s k (keyWords t′ node) → Chain s t first node ks → Known seen m first ks
-      → Known (next seen (keyWords t′ node)) m′ first (ks ++ (k ∷ []))
+  pub known : (c′ : Cursor) → r ≡ Step.Done c′ → (k : Key) (ks : List Key) → Held s k (keyWordsAt t′ node) → Chain s t first node ks → Known seen m first ks
+      → Known (next seen (keyWordsAt t′ node)) m′ first (ks ++ (k ∷ []))
 
 -- the checks at a value's tag
 pub record IsOpen (s : List ℕ) (capacity : ℕ) (c : Cursor) (tag : ℕ) : Type 0 where

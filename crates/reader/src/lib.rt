@@ -1,6 +1,9 @@
 // Reads a plan into a node table, or refuses it.
 use crate::cursor::Cursor;
 use crate::cursor::Step;
+use format::limits::DEPTH_LIMIT;
+use format::limits::SOURCE_LIMIT;
+use format::table::WIDTH;
 ghost use mathlib.Core.Path.{_≡_};
 ghost use Prim.Native.Nat.{_*_, _≤_};
 ghost use lib.ListN.{length};
@@ -16,14 +19,6 @@ mod lookup;
 mod seen;
 mod table;
 mod value;
-
-// The words of a node: "six to a node".
-pub const WIDTH: usize = 6;
-
-// "plan longer than 65,536 bytes" is refused, and so is "depth above 64".
-const SOURCE_LIMIT: usize = 65536;
-
-const DEPTH_LIMIT: usize = 64;
 
 // From these lengths on a plan has a filter of its keys, a larger and a large one: to clear it costs little beside reading so long a plan.
 const FILTER_FROM: usize = 96;

@@ -1,5 +1,6 @@
 // The node that carries an ordinal, found by a scan over the nodes so far.
-use crate::WIDTH;
+use format::table::ORDINAL;
+use format::table::WIDTH;
 ghost use Prim.Native.Nat.{_*_, _≤_, _<_};
 ghost use lib.ListN.{length};
 ghost use Rattle.format.specs.Table.{width};
@@ -12,7 +13,7 @@ fn scan(table: &[u64], from: usize, to: usize, ordinal: u64) -> usize
 {
     let mut i = from;
     while i < to {
-        if table[i * WIDTH + 1] == ordinal {
+        if table[i * WIDTH + ORDINAL] == ordinal {
             return i;
         }
         i += 1;

@@ -1,8 +1,10 @@
 // Whether a key equals an earlier one of its container. New at once are an integer above all before, where only such came, and a key that is not marked;
 // what is marked is looked for among the pairs.
-use crate::WIDTH;
-use format::kind::Kind;
+use format::table::INT_TAG;
+use format::table::PAIR_END;
+use format::table::WIDTH;
 use keys::KeyWords;
+use keys::key_at;
 use keys::same_key;
 ghost use mathlib.Core.Path.{_≡_};
 ghost use mathlib.Core.List.{List};
@@ -12,13 +14,7 @@ ghost use Rattle.format.specs.Syntax.{Key};
 ghost use Rattle.format.specs.Keys.{hasKey};
 ghost use Rattle.format.specs.Table.{width};
 ghost use Rattle.keys.specs.KeyWords.{Held};
-ghost use Rattle.reader.specs.KeysSeen.{rank, keyWords, keyOr, Chain, Walk, MarkedAll, Tested, unmarkedFrom, rises, next};
-
-// Word 0 of an integer key.
-const INT_TAG: u64 = Kind::INT as u64;
-
-// From a key's node on: word 5 of the value's node behind it says where the pair ends.
-const PAIR_END: usize = WIDTH + 5;
+ghost use Rattle.reader.specs.KeysSeen.{rank, keyOr, Chain, Walk, MarkedAll, Tested, unmarkedFrom, rises, next};
 
 // What is known of the keys so far: there is none; no integer among them has a higher rank; all are marked.
 pub enum Seen {
@@ -32,19 +28,6 @@ fn rank(pattern: u64) -> u64
     ensures { λ r. ⌜ r ≡ rank pattern ⌝ }
 {
     std::num::wrapping_add_u64(pattern, 9223372036854775808)
-}
-
-// The key that stands at a node.
-pub(crate) fn key_at(table: &[u64], node: usize) -> KeyWords
-    requires { ⌜ node * width + width ≤ length (now table) ⌝ }
-    ensures { λ r. ⌜ r ≡ keyWords (now (table .entry)) node ⌝ }
-{
-    let k = node * WIDTH;
-    KeyWords {
-        tag: table[k],
-        content: table[k + 2],
-        size: table[k + 3],
-    }
 }
 
 // Whether a key equals one of those of the pairs that stand from node `first` up to `node`, one by one.

@@ -1,6 +1,11 @@
 // The node table: six words to a node.
-use crate::WIDTH;
 use crate::cursor::Cursor;
+use format::table::CONTENT;
+use format::table::END;
+use format::table::LINK;
+use format::table::ORDINAL;
+use format::table::SIZE;
+use format::table::WIDTH;
 use scanner::Text;
 ghost use mathlib.Core.Path.{_≡_};
 ghost use mathlib.Core.List.{[], _∷_};
@@ -17,19 +22,19 @@ fn put_node(table: &mut [u64], node: usize, tag: u8, ordinal: u64, text: Text, e
 {
     let k = node * WIDTH;
     table[k] = tag as u64;
-    table[k + 1] = ordinal;
-    table[k + 2] = text.content;
-    table[k + 3] = text.size;
-    table[k + 4] = text.link;
-    table[k + 5] = end;
+    table[k + ORDINAL] = ordinal;
+    table[k + CONTENT] = text.content;
+    table[k + SIZE] = text.size;
+    table[k + LINK] = text.link;
+    table[k + END] = end;
 }
 
-// Writes word 5 of a node, once it is known where it ends.
+// Writes the end of a node, once it is known where it ends.
 pub(crate) fn put_end(table: &mut [u64], node: usize, end: u64)
     requires { ⌜ node * width + width ≤ length (now table) ⌝ }
     ensures { λ _. ⌜ now (table .exit) ≡ sets (now (table .entry)) (node * width + 5) (end ∷ []) ⌝ }
 {
-    table[node * WIDTH + 5] = end;
+    table[node * WIDTH + END] = end;
 }
 
 // Writes the node of a key, or of a value that holds none, with the next ordinal if it takes one; the cursor behind it.

@@ -3,12 +3,10 @@ use crate::output::copy;
 use crate::rewrite::Change;
 use crate::rewrite::rewrite;
 use crate::shortest::numbered;
+use format::limits::NUMBER_LIMIT;
 ghost use mathlib.Core.Path.{_≡_};
 ghost use Rattle.rewriting.specs.Output.{Puts};
 ghost use Rattle.rewriting.specs.Edited.{stands, insertedText, Insertable};
-
-// "number ... of value at most 65,536".
-const NUMBER_LIMIT: u64 = 65536;
 
 // Where the new pair goes: the indices of the array's tag, of its first pair and of the gap; the array's count of pairs, and the ordinal that the new value takes.
 pub struct Spot {

@@ -4,6 +4,7 @@ use crate::inserted::has_head;
 use crate::inserted::write_inserted;
 use crate::rewrite::Change;
 use crate::rewrite::rewrite;
+use format::limits::SOURCE_LIMIT;
 ghost use mathlib.Core.Path.{_≡_};
 ghost use Rattle.rewriting.specs.Edited.{writable, Edits};
 
@@ -13,9 +14,6 @@ mod plain;
 mod rewrite;
 mod shortest;
 mod stretch;
-
-// A plan's length, and so that of a text which a plan can hold.
-const SOURCE_LIMIT: usize = 65536;
 
 pub enum Edit {
     Canonical,

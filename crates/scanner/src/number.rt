@@ -3,13 +3,11 @@ use crate::Scan;
 use crate::Text;
 use bytes_at::byte_is;
 use bytes_at::bytes_are;
+use format::limits::NUMBER_LIMIT;
 ghost use Prim.Native.Nat.{_-_, _<_, _^_};
 ghost use Rattle.format.specs.Read.{intText};
 ghost use Rattle.scanner.specs.Scans.{Scans, Answers, countText, namedText, valueTold, literalTold, countTold};
 ghost use Rattle.scanner.specs.Parts.{digitsText, signedText, signedTold, FrontIs};
-
-// "*Number* below means digits without sign, of value at most 65,536."
-pub(crate) const NUMBER_LIMIT: u64 = 65536;
 
 // The greatest magnitudes of an integer: with no sign or a `+`, and with a `-`.
 pub(crate) const POSITIVE_LIMIT: u64 = 9223372036854775807;

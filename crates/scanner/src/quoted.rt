@@ -1,10 +1,10 @@
 // Texts between quotes: of s, and O's class name. The index is the one behind the tag.
 use crate::Scan;
 use crate::Text;
-use crate::number::NUMBER_LIMIT;
 use crate::number::digits;
 use bytes_at::byte_is;
 use bytes_at::bytes_are;
+use format::limits::NUMBER_LIMIT;
 ghost use mathlib.Core.List.{[], _∷_};
 ghost use Rattle.format.specs.Bytes.{byte};
 ghost use Rattle.format.specs.Read.{quotedText};

@@ -17,7 +17,7 @@ loop-holds : tie.Need-loop-holds Inv-loop μ-loop
 loop-holds c = record { walks = c .before .before .before .pre; same = refl }
 
 key-at-requires : tie.Need-key-at-requires Inv-loop μ-loop
-key-at-requires c κs = omega (arith, laws.walks-first (c .before .before .before .before .before .args .table .now) (c .before .loop .node) (c .before .loop .left) (c .loop-test .taken) ((c .before .loop .inv) .walks))
+key-at-requires c κs = search needs
 
 same-key-requires : tie.Need-same-key-requires Inv-loop μ-loop
 same-key-requires c κs = search needs

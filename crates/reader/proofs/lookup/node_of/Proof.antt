@@ -4,8 +4,9 @@ use native.Mathlib.Omega.{arith}
 use mathlib.Core.List.{List}
 use mathlib.Core.Path.{_≡_}
 use borrow.Author.Needs.{needs}
+use Rattle.format.specs.Table.{wordAt}
 use Rattle.decimal.proofs.Decide.{Order, below, above, order}
-use Rattle.reader.specs.Nodes.{wordAt, CarrierIn}
+use Rattle.reader.specs.Nodes.{CarrierIn}
 use Rattle.reader.proofs.lookup.node_of.Statement.{statement}
 use Rattle.reader.proofs.lookup.node_of.Tie as tie
 

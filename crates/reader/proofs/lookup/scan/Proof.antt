@@ -3,7 +3,7 @@ use Prim.Native.Nat.{ℕ, _-_, _≤_, _<_}
 use native.Mathlib.Omega.{arith}
 use mathlib.Core.Path.{_≡_}
 use borrow.Author.Count.{below-more}
-use Rattle.reader.specs.Nodes.{wordAt}
+use Rattle.format.specs.Table.{wordAt}
 use Rattle.reader.proofs.lookup.scan.Statement.{statement}
 use Rattle.reader.proofs.lookup.scan.Tie as tie
 

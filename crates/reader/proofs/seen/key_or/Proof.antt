@@ -9,7 +9,7 @@ key-at-requires : tie.Need-key-at-requires
 key-at-requires c κs = search needs
 
 returns : tie.Need-returns
-returns c = c .key-at .ensures ∙ sym (keys.or-in _ _ _ _ (c .before .if1 .taken))
+returns c = c .key-at .ensures ∙ keys.or-key _ _ _ _ (c .before .if1 .taken) (c .before .before .before .pre)
 
 returns-2 : tie.Need-returns-2
 returns-2 c = sym (keys.or-behind _ _ _ _ (c .if1 .left))

@@ -18,7 +18,7 @@ loop-holds : tie.Need-loop-holds Inv-loop μ-loop
 loop-holds c = keys.left-none (c .before .before .pre .1)
 
 key-at-requires : tie.Need-key-at-requires Inv-loop μ-loop
-key-at-requires c κs = omega (arith, keys.walk-on (c .before .loop .inv .walk) (c .loop-test .taken), keys.walk-in (c .before .loop .inv .walk) (c .loop-test .taken))
+key-at-requires c κs = search needs
 
 same-key-requires : tie.Need-same-key-requires Inv-loop μ-loop
 same-key-requires c κs = search needs
@@ -29,7 +29,8 @@ returns c =
     let key-at = same-key .before in
     let loop-test = key-at .before in
     let loop = loop-test .before in
-    keys.left-found (loop .loop .inv) (loop-test .loop-test .taken) _ (same-key .same-key .ensures ∙ ap (sameWords _ _ _) (key-at .key-at .ensures)) (c .if1 .taken)
+    let is = key-at .key-at .ensures ∙ keys.walk-key (loop .loop .inv .walk) (loop-test .loop-test .taken) (loop .before .before .before .pre .0) in
+    keys.left-found (loop .loop .inv) (loop-test .loop-test .taken) _ (same-key .same-key .ensures ∙ ap (sameWords _ _ _) is) (c .if1 .taken)
 
 mul-i : tie.Need-mul-i Inv-loop μ-loop
 mul-i c =
@@ -68,7 +69,8 @@ loop-again c =
     let key-at = same-key .before in
     let loop-test = key-at .before in
     let loop = loop-test .before in
-    keys.left-more (loop .loop .inv) (loop-test .loop-test .taken) _ (same-key .same-key .ensures ∙ ap (sameWords _ _ _) (key-at .key-at .ensures)) (if1 .if1 .left)
+    let is = key-at .key-at .ensures ∙ keys.walk-key (loop .loop .inv .walk) (loop-test .loop-test .taken) (loop .before .before .before .pre .0) in
+    keys.left-more (loop .loop .inv) (loop-test .loop-test .taken) _ (same-key .same-key .ensures ∙ ap (sameWords _ _ _) is) (if1 .if1 .left)
 
 returns-2 : tie.Need-returns-2 Inv-loop μ-loop
 returns-2 c = keys.left-end (c .before .loop .inv) (c .loop-test .left)

@@ -35,7 +35,7 @@ use Rattle.reader.proofs.head.head.Reads as head-reads
 use Rattle.reader.proofs.key.read_key.Reads as read-key-reads
 use Rattle.reader.proofs.leaf.read_common.Reads as read-common-reads
 use Rattle.reader.proofs.leaf.read_reference.Reads as read-reference-reads
-use Rattle.reader.proofs.seen.key_at.Reads as key-at-reads
+use Rattle.keys.proofs.key_at.Reads as key-at-reads
 use Rattle.reader.proofs.seen.next.Reads as next-reads
 use Rattle.reader.proofs.table.enter.Reads as enter-reads
 use Rattle.reader.proofs.table.put_end.Reads as put-end-reads
@@ -224,13 +224,7 @@ pub +read-container+read-pairs+read-value-spec : {M : Type 1} → statement M
       pairs.pairs-bad _ _ _ _ _ _ _ _ _ (c .enum-told .given .1) (pairs.run-key-bad (loop .loop .inv) (loop-test .loop-test .taken) _ _ (subst (MeetsKey _ _ _ _ _ _) (c .enum-told .given .1) (read-key .read-key .ensures .0 ((loop .loop .inv) .earlier) ((loop .loop .inv) .keys)))),
       grows-on ((loop .loop .inv) .grown) (read-key .read-key .ensures .1 .grows),
     ))
-    (λ c κs.
-    let key = c .before .before in
-    let read-key = key .before .before .before .before .before .before in
-    let loop = read-key .before .before .before .before in
-    let k = (subst (MeetsKey _ _ _ _ _ _) (key .key .given .1) (read-key .read-key .ensures .0 ((loop .loop .inv) .earlier) ((loop .loop .inv) .keys))) in
-    let f = (loop .loop .inv) .fit in
-    omega (arith, k .fits, k .node, read-key .read-key .kept .1 .0))
+    (λ c κs. search needs)
     (λ c κs. search needs)
     (λ c κs.
     let key = c .before .before .before .before .before .before in
