@@ -1,9 +1,9 @@
 # make: prove every crate, build the archive for C and Rust and the command.  make run: the main job on the example year.
 # make install PREFIX=/usr/local DESTDIR=: header, archive, pkg-config file and command.  make uninstall: without them.
-# make test: the gate, what CI runs; its last line is 'N passed, 0 failed'.
+# make test: the gate, what CI runs; its last line is 'N passed, 0 failed'.  make wrong: more wrong programs, each to be refused.
 # make fuzz SECONDS=600 SEED=7: the library against the independent side for so long.  make bench: its times beside Rust code's and,
 # where php is installed, PHP's, and its instructions, where valgrind is; make bench ROUNDS=1 is a trial in seconds.
-.PHONY: all prove archive command run test compare fuzz bench install uninstall clean
+.PHONY: all prove archive command run test wrong compare fuzz bench install uninstall clean
 
 SHELL := /bin/bash
 BUILD := $(CURDIR)/build
@@ -79,6 +79,10 @@ test:
 	set -o pipefail; RT_JOBS=$(JOBS) rt ci | tee $(BUILD)/ci.log | sed -u '$$d' || { tail -n 1 $(BUILD)/ci.log; exit 1; }
 	$(MAKE) --no-print-directory compare
 	tail -n 1 $(BUILD)/ci.log
+
+# more wrong programs than the gate tries, over the incremental check
+wrong:
+	tools/wrong.sh
 
 install: $(BUILD)/libtonschnecke.a $(BUILD)/tonschnecke
 	install -d $(foreach file,$(INSTALLED),"$(DESTDIR)$(PREFIX)/$(dir $(file))")

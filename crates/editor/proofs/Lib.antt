@@ -1,3 +1,3 @@
-pub mod Ended
+mod Ended
 pub mod Canonicalizing
 pub mod Inserting

@@ -1,1 +1,1 @@
-pub mod Floats
+mod Floats

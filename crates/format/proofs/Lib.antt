@@ -1,5 +1,5 @@
 pub mod Cases
-pub mod Tags
+mod Tags
 pub mod Answers
 pub mod Keys
 pub mod Floats

@@ -2,8 +2,8 @@ pub mod Located
 pub mod SiteRows
 pub mod Grown
 pub mod Meanings
-pub mod Sizes
-pub mod Kept
-pub mod PairTexts
+mod Sizes
+mod Kept
+mod PairTexts
 pub mod Inserting
 pub mod Refusing

@@ -1,3 +1,3 @@
-pub mod Covers
+mod Covers
 pub mod Hashing
 pub mod Marking

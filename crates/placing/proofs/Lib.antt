@@ -1,11 +1,11 @@
-pub mod WordLaws
-pub mod Passes
-pub mod TextLaws
+mod WordLaws
+mod Passes
+mod TextLaws
 pub mod PairParts
 pub mod Sites
-pub mod SiteWords
-pub mod Placings
-pub mod InsertedTexts
+mod SiteWords
+mod Placings
+mod InsertedTexts
 pub mod Gaps
-pub mod Placements
-pub mod Locating
+mod Placements
+mod Locating

@@ -1,14 +1,14 @@
-pub mod Tagged
-pub mod Bodies
-pub mod Stored
-pub mod Leaves
-pub mod KeyLaws
-pub mod KeySteps
-pub mod Snoc
-pub mod PairSteps
-pub mod HeadTexts
-pub mod ContainerSteps
-pub mod WholeSteps
-pub mod ScalarTexts
-pub mod Placing
+mod Tagged
+mod Bodies
+mod Stored
+mod Leaves
+mod KeyLaws
+mod KeySteps
+mod Snoc
+mod PairSteps
+mod HeadTexts
+mod ContainerSteps
+mod WholeSteps
+mod ScalarTexts
+mod Placing
 pub mod Promised

@@ -1,9 +1,9 @@
-pub mod Outputs
-pub mod Spelled
+mod Outputs
+mod Spelled
 pub mod Respelled
-pub mod Staying
-pub mod PlainTokens
-pub mod Rewritten
-pub mod InsertedTexts
+mod Staying
+mod PlainTokens
+mod Rewritten
+mod InsertedTexts
 pub mod Measures
 pub mod Editable

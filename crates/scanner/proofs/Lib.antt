@@ -1,8 +1,8 @@
 pub mod Numbers
-pub mod Flags
-pub mod Quotes
-pub mod Floats
+mod Flags
+mod Quotes
+mod Floats
 pub mod PlainFloats
-pub mod Heads
-pub mod Scalars
+mod Heads
+mod Scalars
 pub mod Printed

@@ -7,7 +7,7 @@ ghost use Rattle.format.specs.Read.{boolText};
 ghost use Rattle.scanner.specs.Scans.{Answers, nullText, nothingTold, boolTold};
 
 // The semicolon of an N.
-pub fn null(source: &[u8], at: usize) -> Scan
+pub(crate) fn null(source: &[u8], at: usize) -> Scan
     ensures { λ r. ⌜ Answers nullText nothingTold (now (source .entry)) at r ⌝ }
 {
     if !byte_is(source, at, b';') {
@@ -22,7 +22,7 @@ pub fn null(source: &[u8], at: usize) -> Scan
 }
 
 // The bit of a b.
-pub fn boolean(source: &[u8], at: usize) -> Scan
+pub(crate) fn boolean(source: &[u8], at: usize) -> Scan
     ensures { λ r. ⌜ Answers boolText boolTold (now (source .entry)) at r ⌝ }
 {
     if !byte_is(source, at, b':') {

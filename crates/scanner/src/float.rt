@@ -25,7 +25,7 @@ fn semicolon_at(source: &[u8], at: usize) -> usize
 }
 
 // A float text, up to its semicolon.
-pub fn float(source: &[u8], at: usize) -> Scan
+pub(crate) fn float(source: &[u8], at: usize) -> Scan
     ensures { λ r. ⌜ Answers floatText (floatTold at) (now (source .entry)) at r ⌝ }
 {
     if !byte_is(source, at, b':') {

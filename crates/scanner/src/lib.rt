@@ -1,10 +1,10 @@
 // The texts behind a tag: what a text tells its value's node, or why it is none.
-pub mod flag;
-pub mod float;
+mod flag;
+mod float;
 pub mod head;
 pub mod in_line;
 pub mod number;
-pub mod quoted;
+mod quoted;
 pub mod scalar;
 
 // What a text tells: words 2, 3 and 4 of the node, and the index after the text. Words that stand side by side in a node stand apart here: loaded as one pair, they would wait

@@ -90,7 +90,7 @@ fn sign_at(source: &[u8], at: usize) -> Front
 }
 
 // An integer.
-pub fn int(source: &[u8], at: usize) -> Scan
+pub(crate) fn int(source: &[u8], at: usize) -> Scan
     ensures { λ r. ⌜ Answers intText literalTold (now (source .entry)) at r ⌝ }
 {
     if !byte_is(source, at, b':') {
@@ -101,7 +101,7 @@ pub fn int(source: &[u8], at: usize) -> Scan
 }
 
 // A count of pairs and the opening brace, from behind the colon on.
-pub fn count(source: &[u8], at: usize) -> Scan
+pub(crate) fn count(source: &[u8], at: usize) -> Scan
     ensures { λ r. ⌜ Answers countText countTold (now (source .entry)) at r ⌝ }
 {
     let scan = digits(source, at, NUMBER_LIMIT);

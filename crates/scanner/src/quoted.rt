@@ -11,7 +11,7 @@ ghost use Rattle.format.specs.Read.{quotedText};
 ghost use Rattle.scanner.specs.Scans.{Answers, quotedTold};
 
 // A length and so many bytes between quotes, "of any kind": the length alone says where they end.
-pub fn quoted(source: &[u8], at: usize, close: u8) -> Scan
+pub(crate) fn quoted(source: &[u8], at: usize, close: u8) -> Scan
     ensures { λ r. ⌜ Answers (λ l. quotedText l (byte "\"" ∷ close ∷ [])) (quotedTold at) (now (source .entry)) at r ⌝ }
 {
     if !byte_is(source, at, b':') {

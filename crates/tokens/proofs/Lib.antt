@@ -1,5 +1,5 @@
 pub mod TokenLaws
-pub mod Scanned
+mod Scanned
 pub mod Tagged
 pub mod Standing
 pub mod TokenRead

@@ -1,1 +1,1 @@
-pub mod PassedOn
+mod PassedOn

@@ -1,0 +1,72 @@
+#!/usr/bin/env bash
+# Tries the wrong programs and definitions of crates/*/wrong, each over the incremental check of its crate, in a copy of the
+# tree: build/wrong. Before a crate's edits the unedited crate must pass. An edit is written as one of must-fail/ is.
+# A refusal here is no verdict: the incremental check trusts what it kept. The gate's verdict is that of must-fail/.
+# Use: tools/wrong.sh [CRATE...]
+set -euo pipefail
+cd "$(dirname "$0")/.."
+
+copy=build/wrong
+log=$copy/last.log
+tried=0
+failed=0
+
+# Applies an edit to the copy of its crate: `old:` texts stand exactly once in their file.
+apply() { # CRATE EDIT
+    local file='' old='' line text
+    while IFS= read -r line || [ -n "$line" ]; do
+        case $line in
+        'file: '*) file=$copy/crates/$1/${line#file: } ;;
+        'old: '*) old=${line#old: } ;;
+        'new:'*)
+            line=${line#new:}
+            text=$(cat "$file" && echo .)
+            [ "${text#*"$old"}" != "$text" ] || return 1
+            [ "${text#*"$old"*"$old"}" = "$text" ] || return 1
+            printf '%s' "${text%%"$old"*}${line# }${text#*"$old"}" | sed '$d' >"$file"
+            ;;
+        esac
+    done <"$2"
+}
+
+check() { # CRATE
+    (cd "$copy" && rt dev "$1") >"$log" 2>&1
+}
+
+# The copy of a crate is the tree's again.
+restore() { # CRATE
+    rm -rf "$copy/crates/$1"
+    cp -a "crates/$1" "$copy/crates/$1"
+}
+
+try() { # CRATE EDIT
+    local name=$1/$(basename "$2" .edit) began=$SECONDS first
+    tried=$((tried + 1))
+    if ! apply "$1" "$2"; then
+        echo "$name: BAD EDIT: an 'old:' text does not stand exactly once in its file"
+    elif check "$1"; then
+        echo "$name: NOT REFUSED"
+    elif ! grep -q '^logic=not-proved' "$log"; then
+        echo "$name: BAD EDIT: it did not reach the prover"
+    else
+        first=$(grep -m 1 -o '^[^ ]*: error: `[^`]*`' "$log" | sed 's|.*/crates/[^/]*/||') || true
+        echo "$name: refused ($((SECONDS - began)) s) $first"
+        restore "$1"
+        return
+    fi
+    failed=$((failed + 1))
+    restore "$1"
+}
+
+mkdir -p "$copy"
+cp crates.txt "$copy/"
+rm -rf "$copy/crates"
+cp -a crates "$copy/crates"
+[ -d "$copy/target" ] || [ ! -d target ] || cp -a target "$copy/target"
+[ $# -gt 0 ] || set -- $(cd crates && ls -d */wrong | cut -d/ -f1)
+for crate; do
+    check "$crate" || { tail -n 5 "$log"; echo "$crate: the unedited crate is not proved"; exit 1; }
+    for edit in crates/"$crate"/wrong/*.edit; do try "$crate" "$edit"; done
+done
+echo "$tried wrong programs tried, $failed not refused; a refusal here is no verdict"
+[ "$failed" -eq 0 ]
