@@ -34,7 +34,8 @@ module _ (t : List ℕ) (i : ℕ) where
 
 -- ---- pairs walked for their keys
 
-pub key-words : (t : List ℕ) (i : ℕ) → record { tag = getD t (i * width) 0; content = getD t (i * width + 2) 0; size = getD t (i * width + 3) 0 } ≡ keyWordsAt t i
+pub key-words : (t : List ℕ) (i : ℕ)
+    → record { tag = getD t (i * width) 0; content = getD t (i * width + 2) 0; size = getD t (i * width + 3) 0 } ≡ keyWordsAt t i
 key-words t i = ap (λ (n : ℕ). record { tag = n; content = wordAt t i 2; size = wordAt t i 3 }) (word-first t i)
 
 pub walks-first : (t : List ℕ) (i n : ℕ) → 0 < n → Walks t i n → i * width + (width + 5) < length t
