@@ -10,7 +10,8 @@ ghost use Rattle.rewriting.specs.Edited.{stands, insertedText, Insertabl
 // "number ... of value at most 65,536".
 const NUMBER_LIMIT: u64 = 65536;
 
-// Where the new pair goes: the indices of the array's tag, of its first pair and of the gap; the array's count of pairs, and the ordinal that the new value takes.
+// Where the new pair goes: the indices of the array's tag, of its first pair and of the gap; the array's count of pairs, and the ordinal that
+// the new value takes.
 pub struct Spot {
     pub at: usize,
     pub inside: usize,
