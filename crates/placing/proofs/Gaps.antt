@@ -19,7 +19,8 @@ use Rattle.insertion.proofs.Located.{locates}
 use Rattle.insertion.proofs.SiteRows.{site-valid}
 use Rattle.scanner.specs.declared.Text.{Text}
 use Rattle.scanner.specs.Scans.{Found}
-use Rattle.tokens.specs.Tokens.{Token, readToken, tokenTold, scalar, opening, closing, keyScalar, tokens, tokensIn, writeToken, writeTokens, raisedToken, AllFit}
+use Rattle.tokens.specs.Tokens.{Token, readToken, tokenTold, scalar, opening, closing, keyScalar, tokens, tokensIn, writeToken, writeTokens, raisedToken}
+use Rattle.tokens.specs.Tokens.{AllFit}
 use Rattle.tokens.proofs.TokenLaws.{tokens-write, tokens-append, all-append, tokens-fit, token-front, tokens-front, key-written}
 use Rattle.tokens.proofs.Standing.{standing, never-unfit}
 use Rattle.rewriting.specs.declared.inserted.Spot.{Spot}
@@ -60,7 +61,8 @@ module _ (v : Value) (valid : Valid v) (node : ℕ) (site : Site) (e : arrayAt n
   abbrev from-head : List ℕ
   from-head = tag Kind.array ∷ byte ":" ∷ writeNumber (st .head .spelling) (count qs) (byte ":" ∷ byte "{" ∷ from-pairs)
 
-  array-head : (n : ℕ) (h : Head) (r : List ℕ) → h .container ≡ array → writeToken (opening h n) r ≡ tag Kind.array ∷ byte ":" ∷ writeNumber (h .spelling) n (byte ":" ∷ byte "{" ∷ r)
+  array-head : (n : ℕ) (h : Head) (r : List ℕ) → h .container ≡ array
+      → writeToken (opening h n) r ≡ tag Kind.array ∷ byte ":" ∷ writeNumber (h .spelling) n (byte ":" ∷ byte "{" ∷ r)
   array-head n h r i = ap (λ (c : Container). writeContainer c (writeNumber (h .spelling) n (byte ":" ∷ byte "{" ∷ r))) i
 
   pairs-text : writeTokens (tokensIn qs ++ (closing ∷ st .back)) [] ≡ from-pairs
@@ -171,7 +173,8 @@ module _ (v : Value) (node : ℕ) (site : Site) (e : arrayAt node v ≡ ok site)
   abbrev raise : List Token → List Token
   raise ts = map (raisedToken K) ts
 
-  -- THE TOKENS WRITTEN ARE THE OLD ONES WITH THREE CHANGES: each reference to an ordinal from K on names the next, the array's count is one more, and the key and the value stand at the place
+  -- THE TOKENS WRITTEN ARE THE OLD ONES WITH THREE CHANGES: each reference to an ordinal from K on names the next, the array's count is one more, and the key
+  -- and the value stand at the place
   pub new-tokens : tokens (insert (site .path) place k x v)
       ≡ raise (tk .front) ++ (opening (countShortest (tk .head)) (suc (count (site .pairs)))
       ∷ raise (tokensIn (upto place (site .pairs))) ++ (scalar (keyScalar k) ∷ scalar x ∷ raise (tokensIn (after place (site .pairs)) ++ (closing ∷ tk .back))))
@@ -181,17 +184,21 @@ module _ (v : Value) (node : ℕ) (site : Site) (e : arrayAt node v ≡ ok site)
       let more : List Token = tokensIn (after place qs) ++ (closing ∷ tk .back) in
       tokens-raised K (atPath countShortest (putPair place k (leaf x)) (site .path) v)
       ∙ ap raise (tk .edits countShortest (putPair place k (leaf x)))
-      ∙ map-append (raisedToken K) (tk .front) (opening (countShortest (tk .head)) (count (putPair place k (leaf x) qs)) ∷ tokensIn (putPair place k (leaf x) qs) ++ (closing ∷ tk .back))
+      ∙ map-append (raisedToken K) (tk .front)
+      (opening (countShortest (tk .head)) (count (putPair place k (leaf x) qs)) ∷ tokensIn (putPair place k (leaf x) qs) ++ (closing ∷ tk .back))
       ∙ ap (λ (l : List Token). raise (tk .front) ++ l)
       (ap₂ (λ (n : ℕ) (l : List Token). opening (countShortest (tk .head)) n ∷ raise l) (put-count place k (leaf x) qs)
-      (ap (λ (l : List Token). l ++ (closing ∷ tk .back)) (put-tokens place k x qs) ∙ append-assoc (tokensIn (upto place qs)) (scalar (keyScalar k) ∷ scalar x ∷ tokensIn (after place qs)) (closing ∷ tk .back))
-      ∙ ap (λ (l : List Token). opening (countShortest (tk .head)) (suc (count qs)) ∷ l) (map-append (raisedToken K) (tokensIn (upto place qs)) (scalar (keyScalar k) ∷ scalar x ∷ more)))
+      (ap (λ (l : List Token). l ++ (closing ∷ tk .back)) (put-tokens place k x qs)
+      ∙ append-assoc (tokensIn (upto place qs)) (scalar (keyScalar k) ∷ scalar x ∷ tokensIn (after place qs)) (closing ∷ tk .back))
+      ∙ ap (λ (l : List Token). opening (countShortest (tk .head)) (suc (count qs)) ∷ l)
+      (map-append (raisedToken K) (tokensIn (upto place qs)) (scalar (keyScalar k) ∷ scalar x ∷ more)))
 
   -- the same in bytes, by what the code knows: the ordinal, the count and the two texts
   abbrev parts-with : (o m : ℕ) (key value : List ℕ) → List ℕ
   parts-with = pieces (tk .front) (tokensIn (upto place (site .pairs))) (tokensIn (after place (site .pairs)) ++ (closing ∷ tk .back))
 
-  head-text : writeToken (opening (countShortest (tk .head)) (suc (count (site .pairs)))) [] ≡ tag Kind.array ∷ byte ":" ∷ writeNumber shortest (count (site .pairs) + 1) (byte ":" ∷ byte "{" ∷ [])
+  head-text : writeToken (opening (countShortest (tk .head)) (suc (count (site .pairs)))) []
+      ≡ tag Kind.array ∷ byte ":" ∷ writeNumber shortest (count (site .pairs) + 1) (byte ":" ∷ byte "{" ∷ [])
   head-text =
       ap (λ (c : Container). writeContainer c (writeNumber shortest (suc (count (site .pairs))) (byte ":" ∷ byte "{" ∷ []))) (tk .is-array)
       ∙ ap (λ (n : ℕ). tag Kind.array ∷ byte ":" ∷ writeNumber shortest n (byte ":" ∷ byte "{" ∷ [])) (sym (add-one (count (site .pairs))))
@@ -213,7 +220,8 @@ module _ (v : Value) (node : ℕ) (site : Site) (e : arrayAt node v ≡ ok site)
       (tokens-append b (key ∷ scalar x ∷ c) [] ∙ tokens-front b behind ∙ ap (λ (l : List ℕ). writeTokens b [] ++ l)
       (token-front key [] (writeToken (scalar x) (writeTokens c [])) ∙ ap₂ _++_ (key-written k []) (token-front (scalar x) [] (writeTokens c [])))))
 
-  pub written-is : (o m : ℕ) (key value : List ℕ) → o ≡ K → m ≡ count (site .pairs) → key ≡ writeKey k [] → value ≡ writeScalar x [] → print (insert (site .path) place k x v) ≡ parts-with o m key value
+  pub written-is : (o m : ℕ) (key value : List ℕ) → o ≡ K → m ≡ count (site .pairs) → key ≡ writeKey k [] → value ≡ writeScalar x []
+      → print (insert (site .path) place k x v) ≡ parts-with o m key value
   written-is o m key value f g h i =
       parts-are ∙ ap₂ (λ (a b : ℕ). parts-with a b (writeKey k []) (writeScalar x [])) (sym f) (sym g) ∙ ap₂ (parts-with o m) (sym h) (sym i)
 

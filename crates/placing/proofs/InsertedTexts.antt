@@ -47,11 +47,13 @@ module _ {s : List ℕ} {p : Spot} (e : Inserts s p) where
   head-grown : grownHead s p ≡ tag Kind.array ∷ byte ":" ∷ writeNumber shortest (p .count + 1) (byte ":" ∷ byte "{" ∷ [])
   head-grown = tail-of s (p .at) (tell 0 0 0 (p .inside)) 97 (e .head .spelling) (e .head .pairs) (p .count + 1) 2 (58 ∷ 123 ∷ []) (e .inside) head-here refl
 
-  pub inserted-is : (key value : List ℕ) → insertedText s key value p ≡ pieces (e .front .tokens) (e .middle .tokens) (e .back .tokens) (p .ordinal) (p .count) key value
+  pub inserted-is : (key value : List ℕ)
+      → insertedText s key value p ≡ pieces (e .front .tokens) (e .middle .tokens) (e .back .tokens) (p .ordinal) (p .count) key value
   inserted-is key value =
       let raised : List Token → List ℕ = changedText (Change.Raise (p .ordinal)) in
       ap₂ _++_ (ap raised (between-stretch (e .front)))
-      (ap₂ _++_ head-grown (ap₂ _++_ (ap raised (between-stretch (e .middle))) (ap (λ (ts : List Token). key ++ (value ++ raised ts)) (between-stretch (e .back)))))
+      (ap₂ _++_ head-grown
+      (ap₂ _++_ (ap raised (between-stretch (e .middle))) (ap (λ (ts : List Token). key ++ (value ++ raised ts)) (between-stretch (e .back)))))
 
   -- a tag, a colon, and at the end a colon and a brace
   head-long : p .at + 4 ≤ p .inside

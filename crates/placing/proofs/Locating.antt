@@ -24,7 +24,8 @@ use Rattle.placing.specs.Locating.{Locates}
 module _ {s t t′ : List ℕ} {reading : Reading} (r : Reads s t t′ reading) where
   -- ---- reading's refusal is inserting's
 
-  pub locates-unread : (node place : ℕ) (key value : List ℕ) {code at : ℕ} {placing : Placing} → reading ≡ Reading.Refused code at → placing ≡ placingOf reading → Locates s node place key value t t′ placing
+  pub locates-unread : (node place : ℕ) (key value : List ℕ) {code at : ℕ} {placing : Placing} → reading ≡ Reading.Refused code at → placing ≡ placingOf reading
+      → Locates s node place key value t t′ placing
   locates-unread node place key value {code} {at} e f =
       let u = refusal (subst (Reads s t t′) e r) in
       subst (Locates s node place key value t t′) (sym (f ∙ ap placingOf e))
@@ -55,7 +56,8 @@ module _ {s t t′ : List ℕ} {reading : Reading} (r : Reads s t t′ reading) 
 
     module _ (node place : ℕ) (key value : List ℕ) where
       -- the table that reading leaves has the room of the one given
-      as-given : (room : ℕ) {bytes : Answer (List ℕ)} → insertBytes (capacityOf t′) room s node place key value ≡ bytes → insertBytes (capacityOf t) room s node place key value ≡ bytes
+      as-given : (room : ℕ) {bytes : Answer (List ℕ)} → insertBytes (capacityOf t′) room s node place key value ≡ bytes
+          → insertBytes (capacityOf t) room s node place key value ≡ bytes
       as-given room f = ap (λ (c : ℕ). insertBytes c room s node place key value) (sym same-capacity) ∙ f
 
       module _ {placing : Placing} (p : Placed s t′ node place key value placing) where
@@ -67,4 +69,5 @@ module _ {s t t′ : List ℕ} {reading : Reading} (r : Reads s t t′ reading) 
         pub locates-at : {spot : Spot} → placing ≡ Placing.At spot → Locates s node place key value t t′ placing
         locates-at f =
             let q = subst (Placed s t′ node place key value) f p in
-            subst (Locates s node place key value t t′) (sym f) (record { table = r .table; stands = q .stands; parted = q .parted; short = short; bytes = λ room. as-given room (q .bytes room) })
+            subst (Locates s node place key value t t′) (sym f)
+            (record { table = r .table; stands = q .stands; parted = q .parted; short = short; bytes = λ room. as-given room (q .bytes room) })

@@ -18,7 +18,8 @@ use Rattle.scanner.specs.declared.Text.{Text}
 use Rattle.scanner.specs.declared.Scan.{Scan}
 use Rattle.scanner.specs.Scans.{Found, Scans}
 use Rattle.scanner.proofs.Numbers.{unfit-of}
-use Rattle.tokens.specs.Tokens.{Token, scalar, reference, opening, closing, readToken, tokenTold, writeToken, writeTokens, TokenFits, AllFit, opensOf, closesOf, opens, closes, nodesOf, opened, closed}
+use Rattle.tokens.specs.Tokens.{Token, scalar, reference, opening, closing, readToken, tokenTold, writeToken, writeTokens, TokenFits, AllFit, opensOf, closesOf}
+use Rattle.tokens.specs.Tokens.{opens, closes, nodesOf, opened, closed}
 use Rattle.tokens.proofs.TokenLaws.{token-longer}
 use Rattle.tokens.proofs.Tagged.{tagged}
 use Rattle.tokens.proofs.Standing.{first-byte}
@@ -124,7 +125,8 @@ braced [] e = absurd (omega (arith, e))
 braced (b ∷ r) e = (r, ap {B = List ℕ} (λ x. x ∷ r) e)
 
 module _ (s rest : List ℕ) (nodes around at passed o c : ℕ) where
-  one-of : ((r : List ℕ) → rest ≡ 125 ∷ r → around ≡ 0) → goesOn (byteAt s at) (nodes - passed) o c ≡ true → (ts : List Token) → AllFit ts → drop at s ≡ writeTokens ts rest
+  one-of : ((r : List ℕ) → rest ≡ 125 ∷ r → around ≡ 0) → goesOn (byteAt s at) (nodes - passed) o c ≡ true → (ts : List Token) → AllFit ts
+      → drop at s ≡ writeTokens ts rest
       → passed + nodesOf ts ≡ nodes → o + opened ts ≡ c + closed ts + around → One s rest at ts
   one-of z e [] fit t n l =
       let g = goes-true (byteAt s at) (nodes - passed) o c e (omega (arith, n)) in
@@ -132,7 +134,8 @@ module _ (s rest : List ℕ) (nodes around at passed o c : ℕ) where
       absurd (omega (arith, g .0, l, z (r .0) (r .1)))
   one-of z e (u ∷ ts) fit t n l = record { token = u; more = ts; are = refl; fit = fit .0; others = fit .1; text = t }
 
-  none-left : goesOn (byteAt s at) (nodes - passed) o c ≡ false → (ts : List Token) → drop at s ≡ writeTokens ts rest → passed + nodesOf ts ≡ nodes → o + opened ts ≡ c + closed ts + around
+  none-left : goesOn (byteAt s at) (nodes - passed) o c ≡ false → (ts : List Token) → drop at s ≡ writeTokens ts rest → passed + nodesOf ts ≡ nodes
+      → o + opened ts ≡ c + closed ts + around
       → (drop at s ≡ rest) × (o ≡ c + around)
   none-left e [] t n l = (t, omega (arith, l))
   none-left e (scalar x ∷ ts) t n l = absurd (omega (arith, n, goes-false (byteAt s at) (nodes - passed) o c e .0))
@@ -157,7 +160,8 @@ module _ {s : List ℕ} {from nodes at passed o c : ℕ} (p : Passing s from nod
     pub fit-token : Ahead s from nodes → (scan : Scan) (n : ℕ) → Scans readToken (tokenTold at) s at scan → scan ≡ Scan.Not n → ⊥
     fit-token a scan n g f = let u = next a in never-unfit s at (u .token) (writeTokens (u .more) (a .rest)) n (u .fit) (u .text) (unfit-of g f)
 
-    module _ (x : Text) (f : Found readToken (tokenTold at) s at x) (shut up : ℕ) (sh : shut ≡ closesOf (getD s at 0)) (op : up ≡ opensOf (getD s at 0)) (sh-low : shut ≤ 1) (op-low : up ≤ 1) where
+    module _ (x : Text) (f : Found readToken (tokenTold at) s at x) (shut up : ℕ) (sh : shut ≡ closesOf (getD s at 0)) (op : up ≡ opensOf (getD s at 0))
+        (sh-low : shut ≤ 1) (op-low : up ≤ 1) where
       -- one token more
       pub passing-more : Passing s from nodes (x .next) (passed + (1 - shut)) (o + up) (c + shut)
       passing-more = record {
@@ -183,7 +187,8 @@ module _ {s : List ℕ} {from nodes at passed o c : ℕ} (p : Passing s from nod
             };
       }
 
-  pub passing-all : goesOn (byteAt s at) (nodes - passed) o c ≡ false → (a : Ahead s from nodes) → (r : Passed) → r .at ≡ at → r .around ≡ o - c → Reached s (a .rest) (a .around) r
+  pub passing-all : goesOn (byteAt s at) (nodes - passed) o c ≡ false → (a : Ahead s from nodes) → (r : Passed) → r .at ≡ at → r .around ≡ o - c
+      → Reached s (a .rest) (a .around) r
   passing-all e a r f g =
       let l = p .left a in
       let z = none-left s (a .rest) nodes (a .around) at passed o c e (l .tokens) (l .text) (l .counted) (l .level) in

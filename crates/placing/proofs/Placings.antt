@@ -22,7 +22,8 @@ use Rattle.format.specs.Edit.{keys, newOrdinal}
 use Rattle.format.specs.Writing.{Site, arrayAt, insertBytes}
 use Rattle.format.proofs.Results.{flat-length, tableOf-length}
 use Rattle.insertion.proofs.SiteRows.{in-plan, no-array, site-inside, site-depth}
-use Rattle.insertion.proofs.Refusing.{AtArray, AtPlace, WithPair, WithNewKey, WithDepth, WithNodes, RefusedRow, noArray, noPlace, unfit, sameKeyed, tooDeep, noNodes, row-refused, equal-key, has-equal}
+use Rattle.insertion.proofs.Refusing.{AtArray, AtPlace, WithPair, WithNewKey, WithDepth, WithNodes, RefusedRow, noArray, noPlace, unfit, sameKeyed, tooDeep}
+use Rattle.insertion.proofs.Refusing.{noNodes, row-refused, equal-key, has-equal}
 use Rattle.keys.specs.declared.KeyWords.{KeyWords}
 use Rattle.placing.specs.Words.{ArrayIs, GapBounds, BeforeIs, carriers, Walks, keyAmong}
 use Rattle.placing.specs.PairTexts.{ArePair}
@@ -32,10 +33,12 @@ use Rattle.placing.proofs.SiteWords as words
 
 module _ {s t : List ℕ} {n : ℕ} (g : Given s t n) where
   pub table-room : n * width ≤ length t
-  table-room = omega (arith, g .counted, ap length (g .table), length-append (flat (tableOf (g .value))) (g .rest), flat-length (tableOf (g .value)), tableOf-length (g .value))
+  table-room =
+      let rows : List Node = tableOf (g .value) in
+      omega (arith, g .counted, ap length (g .table), length-append (flat rows) (g .rest), flat-length rows, tableOf-length (g .value))
 
   module _ (node place : ℕ) (key value : List ℕ) where
-    abbrev Refuses : ℕ → Type 0
+    abbrev pub Refuses : ℕ → Type 0
     Refuses c = (room : ℕ) → insertBytes (capacityOf t) room s node place key value ≡ refused c 0
 
     refuses : (c : ℕ) → ((room : ℕ) → RefusedRow (capacityOf t) s node place key value room c 0) → Refuses c
@@ -60,7 +63,9 @@ module _ {s t : List ℕ} {n : ℕ} (g : Given s t n) where
     here {m} {o} a = by (arrayAt node (g .value)) refl
       where
         row : (r : Node) → nodeAt (tableOf (g .value)) node ≡ r → wordAt t node 0 ≡ r .tag
-        row r e = words.word-of (g .value) t (g .rest) (g .table) node 0 (omega (arith, g .counted, a .inside)) (omega arith) ∙ ap (λ (x : Node). x .tag) e
+        row r e =
+            words.word-of (g .value) t (g .rest) (g .table) node 0 (omega (arith, g .counted, a .inside)) (omega arith)
+            ∙ ap (λ (x : Node). x .tag) e
 
         by : (x : Answer Site) → arrayAt node (g .value) ≡ x → Here m o
         by (ok z) e = record {
@@ -72,86 +77,118 @@ module _ {s t : List ℕ} {n : ℕ} (g : Given s t n) where
         by (refused c q) e =
             absurd (no-array (g .value) node c q e .2 (omega (arith, g .counted, a .inside)) (sym (row (nodeAt (tableOf (g .value)) node) refl) ∙ a .tagged))
 
-    module _ {m o : ℕ} (h : Here m o) where
-      abbrev v : Value
-      v = g .value
+module _ {s t : List ℕ} {n : ℕ} {g : Given s t n} {node place : ℕ} {key value : List ℕ} {m o : ℕ} (h : Here g node place key value m o) where
+  abbrev v : Value
+  v = g .value
 
-      abbrev qs : Values
-      qs = h .site .pairs
+  at-array : AtArray (capacityOf t) s node place key value v (h .site)
+  at-array = record { was = g .plan; at = h .at }
 
-      at-array : AtArray (capacityOf t) s node place key value v (h .site)
-      at-array = record { was = g .plan; at = h .at }
+  -- ---- 12
 
-      -- ---- 12
+  pub bounds : GapBounds t node m o place
+  bounds =
+      subst (λ (c : ℕ). GapBounds t node c o place) (sym (h .counted))
+      (subst (λ (c : ℕ). GapBounds t node (count (h .site .pairs)) c place) (sym (h .numbered))
+      (words.gap-bounds v t (g .rest) (g .table) node (h .site) (h .at) place))
 
-      pub bounds : GapBounds t node m o place
-      bounds = subst (λ (c : ℕ). GapBounds t node c o place) (sym (h .counted)) (subst (λ (c : ℕ). GapBounds t node (count qs) c place) (sym (h .numbered)) (words.gap-bounds v t (g .rest) (g .table) node (h .site) (h .at) place))
+  pub refuses-12 : m < place → Refuses g node place key value 12
+  refuses-12 f = refuses g node place key value 12 (λ room. noPlace v (h .site) at-array (omega (arith, f, h .counted)))
 
-      pub refuses-12 : m < place → Refuses 12
-      refuses-12 f = refuses 12 (λ room. noPlace v (h .site) at-array (omega (arith, f, h .counted)))
+  module _ {gap new : ℕ} (b : BeforeIs t node m o place gap new) where
+    pub within : place ≤ count (h .site .pairs)
+    within = omega (arith, b .within, h .counted)
 
-      pub node-low : node < n
-      node-low = omega (arith, site-inside v node (h .site) (h .at), g .counted)
+    at-place : AtPlace (capacityOf t) s node place key value v (h .site)
+    at-place = record { array = at-array; within = within }
 
-      module _ {gap new : ℕ} (b : BeforeIs t node m o place gap new) where
-        within : place ≤ count qs
-        within = omega (arith, b .within, h .counted)
+    -- ---- 13
 
-        at-place : AtPlace (capacityOf t) s node place key value v (h .site)
-        at-place = record { array = at-array; within = within }
+    pub refuses-13 : ((k : Key) (x : Scalar) → KeyFits k → key ≡ writeKey k [] → ScalarFits x → value ≡ writeScalar x [] → ⊥)
+        → Refuses g node place key value 13
+    refuses-13 f = refuses g node place key value 13 (λ room. unfit v (h .site) at-place f)
 
-        pub gap-is : gap ≡ node + 1 + nodesIn (upto place qs)
-        gap-is = b .behind ∙ words.gap-node v t (g .rest) (g .table) node (h .site) (h .at) place within
+-- the array, the gap in it and the texts of the pair
+pub record Found {s t : List ℕ} {n : ℕ} (g : Given s t n) (node place : ℕ) (key value : List ℕ) (m o gap new : ℕ) (w : KeyWords) : Type 0 where
+  pub array : Here g node place key value m o
+  pub spot : BeforeIs t node m o place gap new
+  pub pair : ArePair key value w
 
-        pub new-is : new ≡ newOrdinal (h .site .path) place v
-        new-is =
-            b .next ∙ ap₂ (λ (c e : ℕ). c + carriers t (node + 1) (e - (node + 1)) + 1) (h .numbered) (b .behind)
-            ∙ words.gap-ordinal v t (g .rest) (g .table) node (h .site) (h .at) place within
+module _ {s t : List ℕ} {n : ℕ} {g : Given s t n} {node place : ℕ} {key value : List ℕ} {m o gap new : ℕ} {w : KeyWords}
+    (f : Found g node place key value m o gap new w) where
+  abbrev site : Site
+  site = f .array .site
 
-        -- ---- 13
+  abbrev qs : Values
+  qs = site .pairs
 
-        pub refuses-13 : ((k : Key) (x : Scalar) → KeyFits k → key ≡ writeKey k [] → ScalarFits x → value ≡ writeScalar x [] → ⊥) → Refuses 13
-        refuses-13 f = refuses 13 (λ room. unfit v (h .site) at-place f)
+  abbrev k : Key
+  k = f .pair .keyed .key
 
-        module _ {w : KeyWords} (p : ArePair key value w) where
-          abbrev k : Key
-          k = p .keyed .key
+  abbrev x : Scalar
+  x = f .pair .scalar
 
-          with-pair : WithPair (capacityOf t) s node place key value v (h .site) k (p .scalar)
-          with-pair = record { spot = at-place; key-is = p .keyed .written; key-fits = p .keyed .fits; value-is = p .written; value-fits = p .fits }
+  pub node-low : node < n
+  node-low = omega (arith, site-inside (g .value) node site (f .array .at), g .counted)
 
-          -- ---- 9
+  pub gap-is : gap ≡ node + 1 + nodesIn (upto place qs)
+  gap-is = f .spot .behind ∙ words.gap-node (g .value) t (g .rest) (g .table) node site (f .array .at) place (within (f .array) (f .spot))
 
-          pub walks : Walks t (node + 1) m
-          walks = subst (Walks t (node + 1)) (sym (h .counted)) (words.keys-walk v t (g .rest) (g .table) node (h .site) (h .at))
+  pub new-is : new ≡ newOrdinal (site .path) place (g .value)
+  new-is =
+      f .spot .next ∙ ap₂ (λ (c e : ℕ). c + carriers t (node + 1) (e - (node + 1)) + 1) (f .array .numbered) (f .spot .behind)
+      ∙ words.gap-ordinal (g .value) t (g .rest) (g .table) node site (f .array .at) place (within (f .array) (f .spot))
 
-          among : keyAmong s key w t (node + 1) m ≡ hasKey k (keys qs)
-          among = ap (keyAmong s key w t (node + 1)) (h .counted) ∙ words.key-among v t (g .rest) (g .table) node (h .site) (h .at) (g .plan .fits .valid) s (g .plan .printed) key w k (p .keyed .held)
+  with-pair : WithPair (capacityOf t) s node place key value (g .value) site k x
+  with-pair = record {
+    spot = at-place (f .array) (f .spot);
+    key-is = f .pair .keyed .written;
+    key-fits = f .pair .keyed .fits;
+    value-is = f .pair .written;
+    value-fits = f .pair .fits;
+  }
 
-          pub refuses-9 : not (keyAmong s key w t (node + 1) m) ≡ false → Refuses 9
-          refuses-9 f =
-              let q = equal-key k (keys qs) (T-of (sym among ∙ not-false _ f)) in
-              refuses 9 (λ room. sameKeyed v (h .site) k (p .scalar) with-pair (q .0) (q .1) (q .2))
+  -- ---- 9
 
-          module _ (f : not (keyAmong s key w t (node + 1) m) ≡ true) where
-            with-new-key : WithNewKey (capacityOf t) s node place key value v (h .site) k (p .scalar)
-            with-new-key = record { pair = with-pair; new = λ j i e. T-not (hasKey k (keys qs)) (T-of (ap not (sym among) ∙ f)) (has-equal k j (keys qs) i e) }
+  pub walks : Walks t (node + 1) m
+  walks = subst (Walks t (node + 1)) (sym (f .array .counted)) (words.keys-walk (g .value) t (g .rest) (g .table) node site (f .array .at))
 
-            -- ---- 8
+  among : keyAmong s key w t (node + 1) m ≡ hasKey k (keys qs)
+  among =
+      ap (keyAmong s key w t (node + 1)) (f .array .counted)
+      ∙ words.key-among (g .value) t (g .rest) (g .table) node site (f .array .at) (g .plan .fits .valid) s (g .plan .printed) key w k (f .pair .keyed .held)
 
-            module _ {around : ℕ} (a : around ≡ length (h .site .path)) where
-              pub refuses-8 : ltb (suc around) depthLimit ≡ false → Refuses 8
-              refuses-8 d =
-                  refuses 8 (λ room. tooDeep v (h .site) k (p .scalar) with-new-key (omega (arith, a, ltb-false (suc around) depthLimit d, site-depth v node (h .site) (g .plan .fits .valid) (h .at))))
+  pub refuses-9 : not (keyAmong s key w t (node + 1) m) ≡ false → Refuses g node place key value 9
+  refuses-9 e =
+      let q = equal-key k (keys qs) (T-of (sym among ∙ not-false _ e)) in
+      refuses g node place key value 9 (λ room. sameKeyed (g .value) site k x with-pair (q .0) (q .1) (q .2))
 
-              module _ (d : ltb (suc around) depthLimit ≡ true) where
-                with-depth : WithDepth (capacityOf t) s node place key value v (h .site) k (p .scalar)
-                with-depth = record { fresh = with-new-key; shallow = omega (arith, a, ltb-true (suc around) depthLimit d) }
+  abbrev pub Fresh : Type 0
+  Fresh = not (keyAmong s key w t (node + 1) m) ≡ true
 
-                -- ---- 7
+  module _ (fresh : Fresh) where
+    with-new-key : WithNewKey (capacityOf t) s node place key value (g .value) site k x
+    with-new-key = record { pair = with-pair; new = λ j i e. T-not (hasKey k (keys qs)) (T-of (ap not (sym among) ∙ fresh)) (has-equal k j (keys qs) i e) }
 
-                pub refuses-7 : leb (n + 2) (capacityOf t) ≡ false → Refuses 7
-                refuses-7 r = refuses 7 (λ room. noNodes v (h .site) k (p .scalar) with-depth (omega (arith, g .counted, leb-false (n + 2) (capacityOf t) r)))
+    -- ---- 8
 
-                pub with-nodes : leb (n + 2) (capacityOf t) ≡ true → WithNodes (capacityOf t) s node place key value v (h .site) (p .keyed .key) (p .scalar)
-                with-nodes r = record { level = with-depth; small = omega (arith, g .counted, leb-true (n + 2) (capacityOf t) r) }
+    module _ {around : ℕ} (a : around ≡ length (site .path)) where
+      pub refuses-8 : ltb (suc around) depthLimit ≡ false → Refuses g node place key value 8
+      refuses-8 d =
+          let deep = site-depth (g .value) node site (g .plan .fits .valid) (f .array .at) in
+          refuses g node place key value 8 (λ room. tooDeep (g .value) site k x with-new-key (omega (arith, a, ltb-false (suc around) depthLimit d, deep)))
+
+      module _ (d : ltb (suc around) depthLimit ≡ true) where
+        with-depth : WithDepth (capacityOf t) s node place key value (g .value) site k x
+        with-depth = record { fresh = with-new-key; shallow = omega (arith, a, ltb-true (suc around) depthLimit d) }
+
+        -- ---- 7
+
+        pub refuses-7 : leb (n + 2) (capacityOf t) ≡ false → Refuses g node place key value 7
+        refuses-7 r =
+            refuses g node place key value 7
+            (λ room. noNodes (g .value) site k x with-depth (omega (arith, g .counted, leb-false (n + 2) (capacityOf t) r)))
+
+        pub with-nodes : leb (n + 2) (capacityOf t) ≡ true
+            → WithNodes (capacityOf t) s node place key value (g .value) (f .array .site) (f .pair .keyed .key) (f .pair .scalar)
+        with-nodes r = record { level = with-depth; small = omega (arith, g .counted, leb-true (n + 2) (capacityOf t) r) }

@@ -34,14 +34,15 @@ use Rattle.placing.specs.Words.{pairNode, carriers, GapBounds, Walks, ke
 use Rattle.placing.proofs.PairParts.{upto}
 
 -- ---- the words of a list of nodes
-flat-at : (rows : List Node) (rest : List ℕ) (i w : ℕ) → i < length rows → w < 6 → getD (flat rows ++ rest) (i * 6 + w) 0 ≡ getD (words (nodeAt rows i)) w 0
+flat-at : (rows : List Node) (rest : List ℕ) (i w : ℕ) → i < length rows → w < width
+    → getD (flat rows ++ rest) (i * width + w) 0 ≡ getD (words (nodeAt rows i)) w 0
 flat-at [] rest i w h l = absurd (omega arith)
 flat-at (x ∷ xs) rest zero w h l =
-    let e : 0 * 6 + w ≡ w = omega arith in
+    let e : 0 * width + w ≡ w = omega arith in
     ap (λ (m : ℕ). getD (flat (x ∷ xs) ++ rest) m 0) e ∙ List·getD-append (words x) (flat xs ++ rest) 0 w l
 flat-at (x ∷ xs) rest (suc i) w h l =
-    let e : suc i * 6 + w ≡ 6 + (i * 6 + w) = omega arith in
-    ap (λ (m : ℕ). getD (flat (x ∷ xs) ++ rest) m 0) e ∙ getD-append-add (words x) (flat xs ++ rest) (i * 6 + w) 0 ∙ flat-at xs rest i w (omega arith) l
+    let e : suc i * width + w ≡ width + (i * width + w) = omega arith in
+    ap (λ (m : ℕ). getD (flat (x ∷ xs) ++ rest) m 0) e ∙ getD-append-add (words x) (flat xs ++ rest) (i * width + w) 0 ∙ flat-at xs rest i w (omega arith) l
 
 -- ---- counts
 nodes-some : (v : Value) → 1 ≤ nodes v
@@ -132,16 +133,17 @@ module _ (v : Value) (t rest : List ℕ) (e : t ≡ flat (tableOf v) ++ rest) wh
   pub word-of : (i w : ℕ) → i < nodes v → w < width → wordAt t i w ≡ getD (words (nodeAt (tableOf v) i)) w 0
   word-of i w h l = ap (λ (u : List ℕ). wordAt u i w) e ∙ flat-at (tableOf v) rest i w (omega (arith, tableOf-length v)) l
 
-  long : nodes v * 6 ≤ length t
+  long : nodes v * width ≤ length t
   long = omega (arith, ap length e, length-append (flat (tableOf v)) rest, flat-length (tableOf v), tableOf-length v)
 
   row-word : (i w : ℕ) (x : Node) → i < nodes v → w < width → nodeAt (tableOf v) i ≡ x → wordAt t i w ≡ getD (words x) w 0
   row-word i w x h l f = word-of i w h l ∙ ap (λ (y : Node). getD (words y) w 0) f
 
   -- ---- pairs
-  next-word : (o i n : ℕ) (k : Key) (u : Value) (ps : Values) → In o i n (pair k u ps) → i + nodesIn (pair k u ps) ≤ nodes v → wordAt t i (width + 5) ≡ suc (i + nodes u)
+  next-word : (o i n : ℕ) (k : Key) (u : Value) (ps : Values) → In o i n (pair k u ps) → i + nodesIn (pair k u ps) ≤ nodes v
+      → wordAt t i (width + 5) ≡ suc (i + nodes u)
   next-word o i n k u ps g h =
-      let f : i * 6 + 11 ≡ suc i * 6 + 5 = omega arith in
+      let f : i * width + (width + 5) ≡ suc i * width + 5 = omega arith in
       ap (λ (m : ℕ). getD t m 0) f ∙ word-of (suc i) 5 (omega (arith, nodes-some u)) (omega arith)
       ∙ end-is (tableOf v) (targetOf v) u (valueOffset o k) (suc i) n (first-in (tableOf v) (targetOf v) o i n k u ps g) ∙ omega arith
 
@@ -150,13 +152,15 @@ module _ (v : Value) (t rest : List ℕ) (e : t ≡ flat (tableOf v) ++ rest) wh
   pairs-node (suc p) none o i n g h l = absurd (omega arith)
   pairs-node (suc p) (pair k u ps) o i n g h l =
       pair-shift t i p ∙ ap (λ (m : ℕ). pairNode t m p) (next-word o i n k u ps g h)
-      ∙ pairs-node p ps (nextOffset o k u) (suc (i + nodes u)) (n + ordinals own u) (others-in (tableOf v) (targetOf v) o i n k u ps g) (omega arith) (omega arith) ∙ omega arith
+      ∙ pairs-node p ps (nextOffset o k u) (suc (i + nodes u)) (n + ordinals own u) (others-in (tableOf v) (targetOf v) o i n k u ps g) (omega arith)
+      (omega arith) ∙ omega arith
 
   pairs-walk : (ps : Values) (o i n : ℕ) → In o i n ps → i + nodesIn ps ≤ nodes v → Walks t i (count ps)
   pairs-walk none o i n g h = tt
   pairs-walk (pair k u ps) o i n g h = (
     omega (arith, long, nodes-some u),
-    subst (λ (m : ℕ). Walks t m (count ps)) (sym (next-word o i n k u ps g h)) (pairs-walk ps (nextOffset o k u) (suc (i + nodes u)) (n + ordinals own u) (others-in (tableOf v) (targetOf v) o i n k u ps g) (omega arith)),
+    subst (λ (m : ℕ). Walks t m (count ps)) (sym (next-word o i n k u ps g h))
+        (pairs-walk ps (nextOffset o k u) (suc (i + nodes u)) (n + ordinals own u) (others-in (tableOf v) (targetOf v) o i n k u ps g) (omega arith)),
   )
 
   -- ---- ordinals
@@ -182,7 +186,8 @@ module _ (v : Value) (t rest : List ℕ) (e : t ≡ flat (tableOf v) ++ rest) wh
   key-stands i h = key-there t i (omega (arith, long, h))
 
   module _ (source : List ℕ) where
-    key-held : (j : Key) (o i : ℕ) (r : List ℕ) → i < nodes v → nodeAt (tableOf v) i ≡ keyNode o i j → KeyFits j → drop o source ≡ writeKey j r → Held source j (keyWordsAt t i)
+    key-held : (j : Key) (o i : ℕ) (r : List ℕ) → i < nodes v → nodeAt (tableOf v) i ≡ keyNode o i j → KeyFits j → drop o source ≡ writeKey j r
+        → Held source j (keyWordsAt t i)
     key-held (intKey x) o i r h f b d = record {
       is = row-word i 0 (keyNode o i (intKey x)) h (omega arith) f;
       says = sym (row-word i 2 (keyNode o i (intKey x)) h (omega arith) f);
@@ -202,7 +207,8 @@ module _ (v : Value) (t rest : List ℕ) (e : t ≡ flat (tableOf v) ++ rest) wh
         }
 
     module _ (text : List ℕ) (w : KeyWords) (k : Key) (held : Held text k w) where
-      pairs-among : (ps : Values) (o i n : ℕ) (r : List ℕ) (c : Container) (js : List Key) → In o i n ps → i + nodesIn ps ≤ nodes v → drop o source ≡ writePairs ps r → SoundIn c js ps
+      pairs-among : (ps : Values) (o i n : ℕ) (r : List ℕ) (c : Container) (js : List Key) → In o i n ps → i + nodesIn ps ≤ nodes v
+          → drop o source ≡ writePairs ps r → SoundIn c js ps
           → keyAmong source text w t i (count ps) ≡ hasKey k (keys ps)
       unfolding write
       pairs-among none o i n r c js g h d s = refl
@@ -211,14 +217,16 @@ module _ (v : Value) (t rest : List ℕ) (e : t ≡ flat (tableOf v) ++ rest) wh
           (subst (Held source j) (sym (key-stands i (omega arith)))
           (key-held j o i (write u (writePairs ps r)) (omega arith) (at-first (tableOf v) i (keyNode o i j) _ _ (g .here)) (s .0) d)))
           (ap (λ (m : ℕ). keyAmong source text w t m (count ps)) (next-word o i n j u ps g h)
-          ∙ pairs-among ps (nextOffset o j u) (suc (i + nodes u)) (n + ordinals own u) r c (j ∷ js) (others-in (tableOf v) (targetOf v) o i n j u ps g) (omega arith) (others-text source o j u (writePairs ps r) d) (s .4))
+          ∙ pairs-among ps (nextOffset o j u) (suc (i + nodes u)) (n + ordinals own u) r c (j ∷ js) (others-in (tableOf v) (targetOf v) o i n j u ps g)
+          (omega arith) (others-text source o j u (writePairs ps r) d) (s .4))
 
   -- ---- an array
   module _ (node : ℕ) (s : Site) (a : arrayAt node v ≡ ok s) where
     array-row : nodeAt (tableOf v) node ≡ branchNode 0 (in-plan v node s a .ordinal) array (count (s .pairs)) (node + suc (nodesIn (s .pairs)))
     array-row = at-first (tableOf v) node _ _ _ (in-plan v node s a .rows)
 
-    array-word : (w : ℕ) → w < width → wordAt t node w ≡ getD (words (branchNode 0 (in-plan v node s a .ordinal) array (count (s .pairs)) (node + suc (nodesIn (s .pairs))))) w 0
+    array-word : (w : ℕ) → w < width
+        → wordAt t node w ≡ getD (words (branchNode 0 (in-plan v node s a .ordinal) array (count (s .pairs)) (node + suc (nodesIn (s .pairs))))) w 0
     array-word w l = row-word node w _ (omega (arith, site-inside v node s a)) l array-row
 
     array-pairs : In (in-plan v node s a .offset) (suc node) (suc (in-plan v node s a .ordinal)) (s .pairs)
@@ -234,7 +242,8 @@ module _ (v : Value) (t rest : List ℕ) (e : t ≡ flat (tableOf v) ++ rest) wh
     pub gap-node : (p : ℕ) → p ≤ count (s .pairs) → pairNode t (node + 1) p ≡ node + 1 + nodesIn (upto p (s .pairs))
     gap-node p l =
         ap (λ (m : ℕ). pairNode t m p) (add-one node)
-        ∙ pairs-node p (s .pairs) (in-plan v node s a .offset) (suc node) (suc (in-plan v node s a .ordinal)) array-pairs (omega (arith, site-inside v node s a)) l ∙ omega arith
+        ∙ pairs-node p (s .pairs) (in-plan v node s a .offset) (suc node) (suc (in-plan v node s a .ordinal)) array-pairs
+        (omega (arith, site-inside v node s a)) l ∙ omega arith
 
     -- what gap_at asks: for every place
     pub gap-bounds : (p : ℕ) → GapBounds t node (count (s .pairs)) (in-plan v node s a .ordinal) p
@@ -249,12 +258,14 @@ module _ (v : Value) (t rest : List ℕ) (e : t ≡ flat (tableOf v) ++ rest) wh
     }
 
     -- the ordinal that the new value takes
-    pub gap-ordinal : (p : ℕ) → p ≤ count (s .pairs) → in-plan v node s a .ordinal + carriers t (node + 1) (pairNode t (node + 1) p - (node + 1)) + 1 ≡ newOrdinal (s .path) p v
+    pub gap-ordinal : (p : ℕ) → p ≤ count (s .pairs)
+        → in-plan v node s a .ordinal + carriers t (node + 1) (pairNode t (node + 1) p - (node + 1)) + 1 ≡ newOrdinal (s .path) p v
     gap-ordinal p l =
         let f : pairNode t (node + 1) p - (node + 1) ≡ nodesIn (upto p (s .pairs)) = omega (arith, gap-node p l) in
         let c : carriers t (node + 1) (pairNode t (node + 1) p - (node + 1)) ≡ ordinalsUpto own p (s .pairs) =
         ap₂ (carriers t) (add-one node) f
-        ∙ pairs-carry p (s .pairs) (in-plan v node s a .offset) (suc node) (suc (in-plan v node s a .ordinal)) (omega arith) array-pairs (omega (arith, site-inside v node s a)) in
+        ∙ pairs-carry p (s .pairs) (in-plan v node s a .offset) (suc node) (suc (in-plan v node s a .ordinal)) (omega arith) array-pairs
+        (omega (arith, site-inside v node s a)) in
         omega (arith, c, in-plan v node s a .new p)
 
     pub keys-walk : Walks t (node + 1) (count (s .pairs))
@@ -262,8 +273,11 @@ module _ (v : Value) (t rest : List ℕ) (e : t ≡ flat (tableOf v) ++ rest) wh
         subst (λ (m : ℕ). Walks t m (count (s .pairs))) (sym (add-one node))
         (pairs-walk (s .pairs) (in-plan v node s a .offset) (suc node) (suc (in-plan v node s a .ordinal)) array-pairs (omega (arith, site-inside v node s a)))
 
-    pub key-among : Valid v → (source : List ℕ) → source ≡ print v → (text : List ℕ) (w : KeyWords) (k : Key) → Held text k w → keyAmong source text w t (node + 1) (count (s .pairs)) ≡ hasKey k (keys (s .pairs))
+    pub key-among : Valid v → (source : List ℕ) → source ≡ print v → (text : List ℕ) (w : KeyWords) (k : Key) → Held text k w
+        → keyAmong source text w t (node + 1) (count (s .pairs)) ≡ hasKey k (keys (s .pairs))
     key-among f source d text w k held =
         ap (λ (m : ℕ). keyAmong source text w t m (count (s .pairs))) (add-one node)
-        ∙ pairs-among source text w k held (s .pairs) (in-plan v node s a .offset) (suc node) (suc (in-plan v node s a .ordinal)) (byte "}" ∷ in-plan v node s a .after) array []
-        array-pairs (omega (arith, site-inside v node s a)) (ap (drop (in-plan v node s a .offset)) d ∙ in-plan v node s a .text) (site-valid v node s f a .sound)
+        ∙ pairs-among source text w k held (s .pairs) (in-plan v node s a .offset) (suc node) (suc (in-plan v node s a .ordinal))
+        (byte "}" ∷ in-plan v node s a .after) array []
+        array-pairs (omega (arith, site-inside v node s a)) (ap (drop (in-plan v node s a .offset)) d ∙ in-plan v node s a .text)
+        (site-valid v node s f a .sound)

@@ -85,7 +85,9 @@ mutual
         head = s .head;
         back = s .back ++ (closing ∷ []);
         is-array = s .is-array;
-        split = ap (λ (l : List Token). opening h (count ps) ∷ l ++ (closing ∷ [])) (s .split) ∙ before (opening h (count ps) ∷ []) (s .front) (s .head) qs (s .back) (closing ∷ []);
+        split =
+            ap (λ (l : List Token). opening h (count ps) ∷ l ++ (closing ∷ [])) (s .split)
+            ∙ before (opening h (count ps) ∷ []) (s .front) (s .head) qs (s .back) (closing ∷ []);
         edits = λ g f.
             ap₂ (λ (n : ℕ) (l : List Token). opening h n ∷ l ++ (closing ∷ [])) (place-count q (atPath g f a) ps) (s .edits g f)
             ∙ before (opening h (count ps) ∷ []) (s .front) (g (s .head)) (f qs) (s .back) (closing ∷ []);
@@ -93,7 +95,8 @@ mutual
         level = omega (arith, s .level);
       }
 
-  site-tokens-in : {ps : Values} {i q : ℕ} {a : TreePath} {qs : Values} → LocatesIn ps i q a qs → SiteTokens (tokensIn ps) (λ g f. tokensIn (atPlace q (atPath g f a) ps)) i a qs
+  site-tokens-in : {ps : Values} {i q : ℕ} {a : TreePath} {qs : Values} → LocatesIn ps i q a qs
+      → SiteTokens (tokensIn ps) (λ g f. tokensIn (atPlace q (atPath g f a) ps)) i a qs
   site-tokens-in (first k {v} ps {qs} w) =
       let s = site-tokens w in
       let key : Token = scalar (keyScalar k) in
@@ -103,7 +106,8 @@ mutual
         back = s .back ++ tokensIn ps;
         is-array = s .is-array;
         split = ap (λ (l : List Token). key ∷ l ++ tokensIn ps) (s .split) ∙ before (key ∷ []) (s .front) (s .head) qs (s .back) (tokensIn ps);
-        edits = λ g f. ap (λ (l : List Token). key ∷ l ++ tokensIn ps) (s .edits g f) ∙ before (key ∷ []) (s .front) (g (s .head)) (f qs) (s .back) (tokensIn ps);
+        edits =
+            λ g f. ap (λ (l : List Token). key ∷ l ++ tokensIn ps) (s .edits g f) ∙ before (key ∷ []) (s .front) (g (s .head)) (f qs) (s .back) (tokensIn ps);
         nodes = omega (arith, s .nodes);
         level = omega (arith, s .level);
       }
@@ -116,7 +120,8 @@ mutual
         back = s .back;
         is-array = s .is-array;
         split = ap (λ (l : List Token). key ∷ tokens v ++ l) (s .split) ∙ ap {B = List Token} (λ l. key ∷ l) (sym (append-assoc (tokens v) (s .front) _));
-        edits = λ g f. ap (λ (l : List Token). key ∷ tokens v ++ l) (s .edits g f) ∙ ap {B = List Token} (λ l. key ∷ l) (sym (append-assoc (tokens v) (s .front) _));
+        edits = λ g f.
+            ap (λ (l : List Token). key ∷ tokens v ++ l) (s .edits g f) ∙ ap {B = List Token} (λ l. key ∷ l) (sym (append-assoc (tokens v) (s .front) _));
         nodes = omega (arith, e, s .nodes, nodes-append (tokens v) (s .front), nodes-tokens v);
         level = omega (arith, s .level, opened-append (tokens v) (s .front), closed-append (tokens v) (s .front), balanced v);
       }
@@ -128,12 +133,14 @@ put-count zero k u ps = refl
 put-count (suc p) k u none = refl
 put-count (suc p) k u (pair j v ps) = ap suc (put-count p k u ps)
 
-pub put-tokens : (p : ℕ) (k : Key) (x : Scalar) (ps : Values) → tokensIn (putPair p k (leaf x) ps) ≡ tokensIn (upto p ps) ++ (scalar (keyScalar k) ∷ scalar x ∷ tokensIn (after p ps))
+pub put-tokens : (p : ℕ) (k : Key) (x : Scalar) (ps : Values)
+    → tokensIn (putPair p k (leaf x) ps) ≡ tokensIn (upto p ps) ++ (scalar (keyScalar k) ∷ scalar x ∷ tokensIn (after p ps))
 put-tokens zero k x ps = refl
 put-tokens (suc p) k x none = refl
 put-tokens (suc p) k x (pair j v ps) =
     ap (λ (l : List Token). scalar (keyScalar j) ∷ tokens v ++ l) (put-tokens p k x ps)
-    ∙ ap {B = List Token} (λ l. scalar (keyScalar j) ∷ l) (sym (append-assoc (tokens v) (tokensIn (upto p ps)) (scalar (keyScalar k) ∷ scalar x ∷ tokensIn (after p ps))))
+    ∙ ap {B = List Token} (λ l. scalar (keyScalar j) ∷ l)
+    (sym (append-assoc (tokens v) (tokensIn (upto p ps)) (scalar (keyScalar k) ∷ scalar x ∷ tokensIn (after p ps))))
 
 pub parts : (p : ℕ) (ps : Values) → tokensIn ps ≡ tokensIn (upto p ps) ++ tokensIn (after p ps)
 parts zero ps = refl
@@ -157,4 +164,5 @@ module _ (k : ℕ) where
     tokensIn-raised : (ps : Values) → tokensIn (raisedPairs ps) ≡ map (raisedToken k) (tokensIn ps)
     tokensIn-raised none = refl
     tokensIn-raised (pair j v ps) =
-        ap {B = List Token} (λ l. scalar (keyScalar j) ∷ l) (ap₂ _++_ (tokens-raised v) (tokensIn-raised ps) ∙ sym (map-append (raisedToken k) (tokens v) (tokensIn ps)))
+        ap {B = List Token} (λ l. scalar (keyScalar j) ∷ l)
+        (ap₂ _++_ (tokens-raised v) (tokensIn-raised ps) ∙ sym (map-append (raisedToken k) (tokens v) (tokensIn ps)))

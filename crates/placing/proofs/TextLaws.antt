@@ -88,7 +88,8 @@ module _ (s : List ℕ) where
   no-key-tag e k f t = differ (sym (key-tag k t) ∙ e)
 
   -- by what the scan for a scalar found
-  is-key : (x : Text) (y : Scalar) → mayBeKey (getD s 0 0) ≡ true → s ≡ writeScalar y [] → ScalarFits y → x ≡ scalarTold 1 y (x .next) → IsKey s (record { tag = getD s 0 0; content = x .content; size = x .size })
+  is-key : (x : Text) (y : Scalar) → mayBeKey (getD s 0 0) ≡ true → s ≡ writeScalar y [] → ScalarFits y → x ≡ scalarTold 1 y (x .next)
+      → IsKey s (record { tag = getD s 0 0; content = x .content; size = x .size })
   is-key x null m t f e = absurd (differ (sym m ∙ ap (λ (u : List ℕ). mayBeKey (getD u 0 0)) t))
   is-key x (bool b) m t f e = absurd (differ (sym m ∙ ap (λ (u : List ℕ). mayBeKey (getD u 0 0)) t))
   is-key x (float g) m t f e = absurd (differ (sym m ∙ ap (λ (u : List ℕ). mayBeKey (getD u 0 0)) t))
@@ -108,7 +109,10 @@ module _ (s : List ℕ) where
         fits = f;
         held = record {
           is = ap (λ (u : List ℕ). getD u 0 0) t;
-          says = (sym (ap (λ (n : ℕ). take n (drop (x .content) s)) z ∙ ap (λ (n : ℕ). take (length (q .text)) (drop n s)) c ∙ stands), omega (arith, c, z, ap length t, quoted-length q (59 ∷ []), number-length (q .spelling) (length (q .text)) []));
+          says = (
+            sym (ap (λ (n : ℕ). take n (drop (x .content) s)) z ∙ ap (λ (n : ℕ). take (length (q .text)) (drop n s)) c ∙ stands),
+            omega (arith, c, z, ap length t, quoted-length q (59 ∷ []), number-length (q .spelling) (length (q .text)) []),
+          );
           fits = f;
         };
       }

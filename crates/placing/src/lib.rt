@@ -40,7 +40,8 @@ pub fn locate(
     value: &[u8],
     table: &mut [u64],
 ) -> Placing
-    ensures { λ r. ⌜ Locates (now (source .entry)) «array_node» «pair_index» (now (key .entry)) (now (value .entry)) (now (table .entry)) (now (table .exit)) r ⌝ }
+    ensures { λ r. ⌜ Locates (now (source .entry)) «array_node» «pair_index» (now (key .entry)) (now (value .entry))
+        (now (table .entry)) (now (table .exit)) r ⌝ }
 {
     let reading = reader::read(source, table);
     let Reading::Accepted { nodes, ordinals: _ } = reading else {

@@ -16,7 +16,8 @@ pub enum Site {
     Other,
 }
 
-// A place among an array's pairs: the node of the key before which the new pair goes, or the one behind the array, and the ordinal that the new value takes; or a place above the count.
+// A place among an array's pairs: the node of the key before which the new pair goes, or the one behind the array, and the ordinal that
+// the new value takes; or a place above the count.
 pub enum Gap {
     Before { node: usize, ordinal: u64 },
     Beyond,

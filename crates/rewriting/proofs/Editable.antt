@@ -55,8 +55,11 @@ sizes n e key value w =
     record {
       source = leb→le n sourceLimit (and-left (leb n sourceLimit) b (T-of w));
       key = leb→le key sourceLimit (and-left (leb key sourceLimit) c (and-right (leb n sourceLimit) b (T-of w)));
-      value = leb→le value sourceLimit (and-left (leb value sourceLimit) (placed n e) (and-right (leb key sourceLimit) c (and-right (leb n sourceLimit) b (T-of w))));
-      standing = T-true (placed n e) (and-right (leb value sourceLimit) (placed n e) (and-right (leb key sourceLimit) c (and-right (leb n sourceLimit) b (T-of w))));
+      value =
+          leb→le value sourceLimit
+          (and-left (leb value sourceLimit) (placed n e) (and-right (leb key sourceLimit) c (and-right (leb n sourceLimit) b (T-of w))));
+      standing =
+          T-true (placed n e) (and-right (leb value sourceLimit) (placed n e) (and-right (leb key sourceLimit) c (and-right (leb n sourceLimit) b (T-of w))));
     }
 
 -- ---- what is written
@@ -82,7 +85,8 @@ as-insert s key value i = ap (λ (d : Edit). editedText s d key value) i
 -- ---- for those who edit
 
 -- how long it is at most, in a place between tokens
-pub edited-most : (s : List ℕ) (e : Edit) (key value : List ℕ) → writable (length s) e (length key) (length value) ≡ true → ((p : Spot) → e ≡ Edit.Insert p → Parted s p)
+pub edited-most : (s : List ℕ) (e : Edit) (key value : List ℕ) → writable (length s) e (length key) (length value) ≡ true
+    → ((p : Spot) → e ≡ Edit.Insert p → Parted s p)
     → 4 * length (editedText s e key value) ≤ 5 * length s + 4 * length key + 4 * length value + 36
 edited-most s Edit.Canonical key value f g = omega (arith, canonical-text-most s)
 edited-most s (Edit.Insert p) key value f g = parted-most s key value p (sizes (length s) (Edit.Insert p) (length key) (length value) f .standing) (g p refl)
@@ -107,7 +111,8 @@ module _ {s : List ℕ} {e : Edit} {key value out out′ : List ℕ} where
       never j = let z : _≡_ {A = ℕ} 0 1 = cc in omega arith
 
   -- what is fit once is fit again
-  pub written-fit : {r : Edited} → Edits s e key value out out′ r → writable (length s) e (length key) (length value) ≡ true → (n : ℕ) × Put s e key value out out′ n
+  pub written-fit : {r : Edited} → Edits s e key value out out′ r → writable (length s) e (length key) (length value) ≡ true
+      → (n : ℕ) × Put s e key value out out′ n
   written-fit (written m f p) i = (m, record { fit = f; text = p })
   written-fit (unfit f o) i = absurd (differ (sym i ∙ f))
     where

@@ -1,7 +1,7 @@
 -- The source with a pair in it, written piece by piece. Assumes nothing.
 use Prim.Native.Nat.{ℕ, _+_, _-_, _≤_}
 use native.Mathlib.Omega.{arith}
-use mathlib.Core.Path.{_≡_, refl, sym, ap}
+use mathlib.Core.Path.{_≡_, refl, sym}
 use mathlib.Core.List.{List, [], _++_, append-nil}
 use mathlib.Core.Bool.{Bool, true, false, _&&_}
 use lib.Dec.{T, leb, leb→le}
@@ -103,5 +103,6 @@ module _ {s key value : List ℕ} {p : Spot} (a : Insertable s key value p) wher
             pub back-within : Within (rewrittenText c s (p .gap) (length s)) r₅
             back-within = within-then w₄ (puts-as (sym (all-of value)) p₅)
 
-            pub all-put : {out₆ : List ℕ} {r₆ : ℕ} → Puts (rewrittenText c s (p .gap) (length s)) r₅ out₅ r₆ out₆ → Puts (insertedText s key value p) 0 out r₆ out₆
+            pub all-put : {out₆ : List ℕ} {r₆ : ℕ} → Puts (rewrittenText c s (p .gap) (length s)) r₅ out₅ r₆ out₆
+                → Puts (insertedText s key value p) 0 out r₆ out₆
             all-put p₆ = puts-then p₁ (puts-then p₂ (puts-then p₃ (puts-then (puts-as (sym (all-of key)) p₄) (puts-then (puts-as (sym (all-of value)) p₅) p₆))))

@@ -38,7 +38,8 @@ one-more = by-tens (λ n. length (decimal (suc n)) ≤ length (decimal n) + 1)
     (λ n h. omega (arith, decimal-length 1 (suc n) (omega arith), decimal-some n))
     (λ n h ih. tens n h ih (order (n % 10) 9))
   where
-    tens : (n : ℕ) → 10 ≤ n → length (decimal (suc (n / 10))) ≤ length (decimal (n / 10)) + 1 → Order (n % 10) 9 → length (decimal (suc n)) ≤ length (decimal n) + 1
+    tens : (n : ℕ) → 10 ≤ n → length (decimal (suc (n / 10))) ≤ length (decimal (n / 10)) + 1 → Order (n % 10) 9
+        → length (decimal (suc n)) ≤ length (decimal n) + 1
     tens n h ih o =
         let next : ℕ = suc n / 10 in
         omega (
@@ -122,8 +123,13 @@ unfolding quarters
 raised-between k s from to = omega (arith, tokens-most (Change.Raise k) (tokensBetween s from to), between-most s from to)
 
 stretch-length : {s : List ℕ} {from to : ℕ} (g : Stretch s from to) → length s - from ≡ length (writeTokens (g .tokens) []) + (length s - to)
-stretch-length {s} {from} {to} g =
-    omega (arith, ap length (g .text ∙ tokens-front (g .tokens) (drop to s)), length-append (writeTokens (g .tokens) []) (drop to s), length-drop from s, length-drop to s)
+stretch-length {s} {from} {to} g = omega (
+  arith,
+  ap length (g .text ∙ tokens-front (g .tokens) (drop to s)),
+  length-append (writeTokens (g .tokens) []) (drop to s),
+  length-drop from s,
+  length-drop to s,
+)
 
 -- a stretch has as many bytes as it takes
 raised-stretch : (k : ℕ) {s : List ℕ} {from to : ℕ} → Stretch s from to → 4 * length (rewrittenText (Change.Raise k) s from to) ≤ 5 * (to - from)
@@ -182,7 +188,14 @@ module _ (s key value : List ℕ) (p : Spot) where
 
     -- whatever the place
     inserted-most : 4 * length (insertedText s key value p) ≤ 15 * length s + 4 * length key + 4 * length value + 36
-    inserted-most = omega (arith, inserted-length, head-most, raised-between (p .ordinal) s 0 (p .at), raised-between (p .ordinal) s (p .inside) (p .gap), raised-between (p .ordinal) s (p .gap) (length s))
+    inserted-most = omega (
+      arith,
+      inserted-length,
+      head-most,
+      raised-between (p .ordinal) s 0 (p .at),
+      raised-between (p .ordinal) s (p .inside) (p .gap),
+      raised-between (p .ordinal) s (p .gap) (length s),
+    )
 
     pub insertable : length s ≤ sourceLimit → length key ≤ sourceLimit → length value ≤ sourceLimit → Insertable s key value p
     insertable h i j = record {

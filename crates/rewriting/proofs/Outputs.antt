@@ -18,7 +18,8 @@ use Rattle.rewriting.specs.Output.{withSign, signedDigits, Within, Puts}
 -- ---- texts
 
 -- a text, and then another behind it
-pub puts-then : {t u : List ℕ} {w : ℕ} {out : List ℕ} {e : ℕ} {out₁ : List ℕ} {e₂ : ℕ} {out₂ : List ℕ} → Puts t w out e out₁ → Puts u e out₁ e₂ out₂ → Puts (t ++ u) w out e₂ out₂
+pub puts-then : {t u : List ℕ} {w : ℕ} {out : List ℕ} {e : ℕ} {out₁ : List ℕ} {e₂ : ℕ} {out₂ : List ℕ} → Puts t w out e out₁ → Puts u e out₁ e₂ out₂
+    → Puts (t ++ u) w out e₂ out₂
 puts-then {t} {u} {w} {out} {e} x y = record {
   end = omega (arith, x .end, y .end, length-append t u);
   text = y .text ∙ rw (x .text) (sets-append t u out w e (x .end));
@@ -58,7 +59,8 @@ module _ {all : List ℕ} {w₀ : ℕ} {out₀ left : List ℕ} {w : ℕ} {out :
   owes-within t u e h = record { low = omega (arith, o .end, h .low, ap length e, length-append t u) }
 
   -- one part more
-  pub owes-more : {t : List ℕ} (u : List ℕ) → left ≡ t ++ u → {e : ℕ} {out′ : List ℕ} → Puts t w out e out′ → length out′ ≡ length out → Owes all w₀ out₀ u e out′
+  pub owes-more : {t : List ℕ} (u : List ℕ) → left ≡ t ++ u → {e : ℕ} {out′ : List ℕ} → Puts t w out e out′ → length out′ ≡ length out
+      → Owes all w₀ out₀ u e out′
   owes-more {t} u i {e} p k = record {
     same = k ∙ o .same;
     end = omega (arith, p .end, o .end, ap length i, length-append t u);
@@ -76,7 +78,8 @@ drop-take (suc f) n [] = rw (suc-add f n) (sym (take-nil n))
 drop-take (suc f) n (x ∷ l) = rw (suc-add f n) (drop-take f n l)
 
 -- a part by the bytes around it
-pub slice-of : (s : List ℕ) (at : ℕ) (a b c : List ℕ) → drop at s ≡ a ++ (b ++ c) → (from to : ℕ) → from ≡ at + length a → to ≡ from + length b → slice from to s ≡ b
+pub slice-of : (s : List ℕ) (at : ℕ) (a b c : List ℕ) → drop at s ≡ a ++ (b ++ c) → (from to : ℕ) → from ≡ at + length a → to ≡ from + length b
+    → slice from to s ≡ b
 slice-of s at a b c e from to f t =
     ap (λ (n : ℕ). slice from n s) t
     ∙ drop-take from (length b) s
@@ -94,8 +97,10 @@ part-and-rest from to s h =
 pub slice-join : (a b c : ℕ) (s : List ℕ) → a ≤ b → b ≤ c → c ≤ length s → slice a b s ++ slice b c s ≡ slice a c s
 slice-join a b c s h i j =
     let l : List ℕ = slice a b s ++ slice b c s in
-    let e : drop a s ≡ l ++ drop c s = part-and-rest a b s h ∙ ap (λ (r : List ℕ). slice a b s ++ r) (part-and-rest b c s i) ∙ sym (append-assoc (slice a b s) (slice b c s) (drop c s)) in
-    sym (slice-of s a [] l (drop c s) e a c (sym (add-zero a)) (omega (arith, length-append (slice a b s) (slice b c s), length-slice a b s (omega arith), length-slice b c s j)))
+    let e : drop a s ≡ l ++ drop c s =
+    part-and-rest a b s h ∙ ap (λ (r : List ℕ). slice a b s ++ r) (part-and-rest b c s i) ∙ sym (append-assoc (slice a b s) (slice b c s) (drop c s)) in
+    sym (slice-of s a [] l (drop c s) e a c (sym (add-zero a))
+    (omega (arith, length-append (slice a b s) (slice b c s), length-slice a b s (omega arith), length-slice b c s j)))
 
 -- ---- copying
 
@@ -117,8 +122,13 @@ module _ (s : List ℕ) (from to w : ℕ) (out₀ : List ℕ) where
       → Copied s from to w out₀ (i + 1) out′
   copied-more i out out′ h c l e =
       let x : List ℕ = slice from to s in
-      let m : drop i x ≡ getD s (from + i) 0 ∷ drop (suc i) x = drop-cons x i 0 (omega (arith, length-slice from to s h)) ∙ ap {B = List ℕ} (λ b. b ∷ drop (suc i) x) (slice-at s from to i l) in
-      record { upto = omega arith; text = rw (e, add-one, add-suc) (rw m at (c .text)); same = ap length e ∙ length-set out (w + i) (getD s (from + i) 0) ∙ c .same }
+      let m : drop i x ≡ getD s (from + i) 0 ∷ drop (suc i) x =
+      drop-cons x i 0 (omega (arith, length-slice from to s h)) ∙ ap {B = List ℕ} (λ b. b ∷ drop (suc i) x) (slice-at s from to i l) in
+      record {
+        upto = omega arith;
+        text = rw (e, add-one, add-suc) (rw m at (c .text));
+        same = ap length e ∙ length-set out (w + i) (getD s (from + i) 0) ∙ c .same;
+      }
 
   copied-all : (i : ℕ) (out : List ℕ) → to ≤ length s → Copied s from to w out₀ i out → to - from ≤ i → Puts (slice from to s) w out₀ (w + (to - from)) out
   copied-all i out h c l =
@@ -126,10 +136,15 @@ module _ (s : List ℕ) (from to w : ℕ) (out₀ : List ℕ) where
       record { end = rw (length-slice from to s h); text = rw none at (c .text) }
 
   -- where the output ends, what is left of the part is lost
-  copied-full : (i : ℕ) (out : List ℕ) → to ≤ length s → Copied s from to w out₀ i out → length out₀ ≤ w + i → Puts (slice from to s) w out₀ (w + (to - from)) out
-  copied-full i out h c l = record { end = rw (length-slice from to s h); text = sym (sets-out out (w + i) (drop i (slice from to s)) (omega (arith, c .same, l))) ∙ c .text }
+  copied-full : (i : ℕ) (out : List ℕ) → to ≤ length s → Copied s from to w out₀ i out → length out₀ ≤ w + i
+      → Puts (slice from to s) w out₀ (w + (to - from)) out
+  copied-full i out h c l = record {
+    end = rw (length-slice from to s h);
+    text = sym (sets-out out (w + i) (drop i (slice from to s)) (omega (arith, c .same, l))) ∙ c .text;
+  }
 
-  pub copied-most : (i : ℕ) (out : List ℕ) → to ≤ length s → Copied s from to w out₀ i out → min (length out₀ - w) (to - from) ≤ i → Puts (slice from to s) w out₀ (w + (to - from)) out
+  pub copied-most : (i : ℕ) (out : List ℕ) → to ≤ length s → Copied s from to w out₀ i out → min (length out₀ - w) (to - from) ≤ i
+      → Puts (slice from to s) w out₀ (w + (to - from)) out
   copied-most i out h c l = by (order i (to - from))
     where
       by : Order i (to - from) → Puts (slice from to s) w out₀ (w + (to - from)) out
@@ -143,13 +158,15 @@ module _ (word : ℕ) (x : Signed) (h : SignedOf 64 word x) (w : ℕ) (out : Lis
   unfolding signedDigits
   digits-are = ap₂ (λ (n : Bool) (m : ℕ). withSign n (decimal m)) (h .negative) (h .magnitude)
 
-  signed-as : (t : List ℕ) {e : ℕ} {out′ : List ℕ} → withSign (x .negative) (decimal (x .magnitude)) ≡ t → Puts t w out e out′ → Puts (signedDigits word) w out e out′
+  signed-as : (t : List ℕ) {e : ℕ} {out′ : List ℕ} → withSign (x .negative) (decimal (x .magnitude)) ≡ t → Puts t w out e out′
+      → Puts (signedDigits word) w out e out′
   signed-as t {e} {out′} f p = subst (λ (u : List ℕ). Puts u w out e out′) (sym f ∙ digits-are) p
 
   pub puts-positive : {e : ℕ} {out′ : List ℕ} → x .negative ≡ false → Puts (decimal (x .magnitude)) w out e out′ → Puts (signedDigits word) w out e out′
   puts-positive n p = signed-as (decimal (x .magnitude)) (ap (λ (b : Bool). withSign b (decimal (x .magnitude))) n) p
 
-  pub puts-negative : {out₁ : List ℕ} {e : ℕ} {out′ : List ℕ} → x .negative ≡ true → out₁ ≡ set out (w + 0) 45 → Puts (decimal (x .magnitude)) (w + 1) out₁ e out′ → Puts (signedDigits word) w out e out′
+  pub puts-negative : {out₁ : List ℕ} {e : ℕ} {out′ : List ℕ} → x .negative ≡ true → out₁ ≡ set out (w + 0) 45
+      → Puts (decimal (x .magnitude)) (w + 1) out₁ e out′ → Puts (signedDigits word) w out e out′
   puts-negative {out₁} n s p =
       let minus : Puts (45 ∷ []) w out (w + 1) out₁ = record { end = refl; text = s ∙ rw (add-zero w) } in
       signed-as (45 ∷ decimal (x .magnitude)) (ap (λ (b : Bool). withSign b (decimal (x .magnitude))) n) (puts-then minus p)
@@ -159,5 +176,6 @@ module _ (word : ℕ) (x : Signed) (h : SignedOf 64 word x) (w : ℕ) (out : Lis
 
   pub within-negative : x .negative ≡ true → Within (signedDigits word) w → Within (decimal (x .magnitude)) (w + 1)
   within-negative n h =
-      let k : Within (45 ∷ decimal (x .magnitude)) w = subst (λ (u : List ℕ). Within u w) (sym digits-are ∙ ap (λ (b : Bool). withSign b (decimal (x .magnitude))) n) h in
+      let k : Within (45 ∷ decimal (x .magnitude)) w =
+      subst (λ (u : List ℕ). Within u w) (sym digits-are ∙ ap (λ (b : Bool). withSign b (decimal (x .magnitude))) n) h in
       record { low = omega (arith, k .low) }

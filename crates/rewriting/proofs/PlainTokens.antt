@@ -31,7 +31,8 @@ use Rattle.rewriting.proofs.Respelled.{token-bytes}
 use Rattle.rewriting.proofs.Staying.{no-zeros, front-of}
 
 -- a token that no change changes
-passes-token : (s : List ℕ) (at : ℕ) (t : Token) (next : ℕ) → drop at s ≡ writeToken t (drop next s) → next ≤ length s → TokenFits t → ((c : Change) → changedToken c t ≡ t) → Passes s at next
+passes-token : (s : List ℕ) (at : ℕ) (t : Token) (next : ℕ) → drop at s ≡ writeToken t (drop next s) → next ≤ length s → TokenFits t
+    → ((c : Change) → changedToken c t ≡ t) → Passes s at next
 passes-token s at t next e h f same =
     let longer : length (drop next s) < length (drop at s) = omega (arith, token-longer t (drop next s), ap length e) in
     record {
@@ -83,7 +84,9 @@ module _ (s : List ℕ) (at : ℕ) (t : TagAt s at (byte "i")) (colon : eqb (byt
     inside-int = omega (arith, some, byte-there s (run .next) 59 (lit< tt) stop)
 
     pub plain-int : ShortestFront (getD s (at + 2) 0) (getD s (at + 3) 0) → Passes s at (run .next + 1)
-    plain-int f = passes-token s at (scalar (int i)) (run .next + 1) (written-with 0 digits-are-shortest) (omega (arith, byte-there s (run .next) 59 (lit< tt) stop)) fits same
+    plain-int f =
+        passes-token s at (scalar (int i)) (run .next + 1) (written-with 0 digits-are-shortest)
+        (omega (arith, byte-there s (run .next) 59 (lit< tt) stop)) fits same
       where
         text : List ℕ
         text = drop (at + 2) s
@@ -100,7 +103,9 @@ module _ (s : List ℕ) (at : ℕ) (t : TagAt s at (byte "i")) (colon : eqb (byt
         written-with : (z : ℕ) → digitsOf text ≡ spelled z n → drop at s ≡ 105 ∷ 58 ∷ spelled z n ++ (59 ∷ rest)
         written-with z e =
             tagged s at 105 58 t (lit< tt) colon
-            ∙ ap {B = List ℕ} (λ l. 105 ∷ 58 ∷ l) (digits-split text ∙ ap (λ (l : List ℕ). digitsOf text ++ l) (run-rest s (at + 2) 0 run r ∙ drop-byte s (run .next) 59 (lit< tt) stop) ∙ ap (λ (l : List ℕ). l ++ (59 ∷ rest)) e)
+            ∙ ap {B = List ℕ} (λ l. 105 ∷ 58 ∷ l) (digits-split text
+            ∙ ap (λ (l : List ℕ). digitsOf text ++ l) (run-rest s (at + 2) 0 run r ∙ drop-byte s (run .next) 59 (lit< tt) stop)
+            ∙ ap (λ (l : List ℕ). l ++ (59 ∷ rest)) e)
 
         none : spelt .0 ≡ 0
         none = no-zeros (spelt .0) n (59 ∷ rest) (front-of s at 105 (spelled (spelt .0) n ++ (59 ∷ rest)) (written-with (spelt .0) (spelt .1)) f)
@@ -118,7 +123,8 @@ module _ (s : List ℕ) (at : ℕ) (t : TagAt s at (byte "i")) (colon : eqb (byt
         same Change.Canonical = refl
         same (Change.Raise k) = refl
 
-pub plain-float : (s : List ℕ) (at : ℕ) → TagAt s at (byte "d") → eqb (byteAt s (at + 1)) (byte ":") ≡ true → {end : ℕ} → PlainEnd s (at + 2) end → Passes s at (end + 1)
+pub plain-float : (s : List ℕ) (at : ℕ) → TagAt s at (byte "d") → eqb (byteAt s (at + 1)) (byte ":") ≡ true → {end : ℕ} → PlainEnd s (at + 2) end
+    → Passes s at (end + 1)
 plain-float s at t colon {end} p = passes-token s at (scalar (float text)) (end + 1) written (omega (arith, p .inside)) (T-of (p .float)) same
   where
     text : List ℕ

@@ -15,7 +15,8 @@ use Rattle.decimal.proofs.Numerals.{spelled-length, spelled-some}
 use Rattle.decimal.proofs.Complements.{InBits, sign-back, magnitude-back}
 use Rattle.format.specs.Bytes.{byte}
 use Rattle.format.specs.Kind.{Kind, tag}
-use Rattle.format.specs.Syntax.{null, bool, int, float, string, array, object, Spelling, Sign, unsigned, plus, minus, Literal, Quoted, Container, RefKind, objectRef, variableRef, refKind, Reference, writeNumber, writeSign}
+use Rattle.format.specs.Syntax.{null, bool, int, float, string, array, object, Spelling, Sign, unsigned, plus, minus, Literal, Quoted, Container, RefKind}
+use Rattle.format.specs.Syntax.{objectRef, variableRef, refKind, Reference, writeNumber, writeSign}
 use Rattle.format.specs.Keys.{signed, integer}
 use Rattle.format.specs.Limits.{numberLimit, integerLimit}
 use Rattle.format.specs.Table.{word}
@@ -55,15 +56,25 @@ module _ (s : List ℕ) (at : ℕ) where
   front b r e = slice-of s at [] (b ∷ 58 ∷ []) r e at (at + 2) (sym (add-zero at)) refl
 
   -- a number m in the place of the n between a tag and a tail
-  numbered-is : (b : ℕ) (w : Spelling) (n m : ℕ) (tail r : List ℕ) → drop at s ≡ b ∷ 58 ∷ writeNumber w n (tail ++ r) → (from to : ℕ) → from ≡ at + 2 + length (spelled (w .zeros) n) → to ≡ from + length tail
+  numbered-is : (b : ℕ) (w : Spelling) (n m : ℕ) (tail r : List ℕ) → drop at s ≡ b ∷ 58 ∷ writeNumber w n (tail ++ r) → (from to : ℕ)
+      → from ≡ at + 2 + length (spelled (w .zeros) n) → to ≡ from + length tail
       → numberedText s at m from to ≡ b ∷ 58 ∷ writeNumber shortest m tail
   numbered-is b w n m tail r e from to f g =
-      ap₂ _++_ (front b (writeNumber w n (tail ++ r)) e) (ap (λ (l : List ℕ). decimal m ++ l) (slice-of s at (b ∷ 58 ∷ spelled (w .zeros) n) tail r e from to (omega arith) g))
+      ap₂ _++_ (front b (writeNumber w n (tail ++ r)) e)
+      (ap (λ (l : List ℕ). decimal m ++ l) (slice-of s at (b ∷ 58 ∷ spelled (w .zeros) n) tail r e from to (omega arith) g))
 
   -- a token that stands there
   module _ (t : Token) (next : ℕ) (e : drop at s ≡ writeToken t (drop next s)) (h : next ≤ length s) where
     token-ends : next ≡ at + length (writeToken t [])
-    token-ends = omega (arith, token-some t [], h, length-drop at s, length-drop next s, ap length (e ∙ token-front t [] (drop next s)), length-append (writeToken t []) (drop next s))
+    token-ends = omega (
+      arith,
+      token-some t [],
+      h,
+      length-drop at s,
+      length-drop next s,
+      ap length (e ∙ token-front t [] (drop next s)),
+      length-append (writeToken t []) (drop next s),
+    )
 
     pub token-bytes : slice at next s ≡ writeToken t []
     token-bytes = slice-of s at [] (writeToken t []) (drop next s) (e ∙ token-front t [] (drop next s)) at next (sym (add-zero at)) token-ends
@@ -88,12 +99,15 @@ module _ (s : List ℕ) (at : ℕ) (x : Text) where
   respelled-int : (i : Literal) → Stands s at (scalar (int i)) x → shortestText s at x ≡ writeToken (canonicalToken (scalar (int i))) []
   respelled-int i st =
       let ds : List ℕ = writeSign (i .sign) (spelled (i .zeros) (i .magnitude)) in
-      let e : drop at s ≡ 105 ∷ 58 ∷ ds ++ (59 ∷ drop (x .next) s) = st .written ∙ ap {B = List ℕ} (λ y. 105 ∷ 58 ∷ y) (sign-front (i .sign) (spelled (i .zeros) (i .magnitude)) (59 ∷ drop (x .next) s)) in
-      let n : x .next ≡ at + 2 + length ds + 1 = omega (arith, st .inside, length-drop at s, length-drop (x .next) s, ap length e, length-append ds (59 ∷ drop (x .next) s)) in
+      let e : drop at s ≡ 105 ∷ 58 ∷ ds ++ (59 ∷ drop (x .next) s) =
+      st .written ∙ ap {B = List ℕ} (λ y. 105 ∷ 58 ∷ y) (sign-front (i .sign) (spelled (i .zeros) (i .magnitude)) (59 ∷ drop (x .next) s)) in
+      let n : x .next ≡ at + 2 + length ds + 1 =
+      omega (arith, st .inside, length-drop at s, length-drop (x .next) s, ap length e, length-append ds (59 ∷ drop (x .next) s)) in
       by-tag 105 _ _ e (
       ap₂ _++_ (front s at 105 _ e) (
       ap (λ (c : ℕ). signedDigits c ++ slice (x .next - 1) (x .next) s) (ap (λ (u : Text). u .content) (st .tells))
-      ∙ ap (λ (l : List ℕ). signedDigits (word (integer i)) ++ l) (slice-of s at (105 ∷ 58 ∷ ds) (59 ∷ []) (drop (x .next) s) e (x .next - 1) (x .next) (omega arith) (omega arith))
+      ∙ ap (λ (l : List ℕ). signedDigits (word (integer i)) ++ l)
+      (slice-of s at (105 ∷ 58 ∷ ds) (59 ∷ []) (drop (x .next) s) e (x .next - 1) (x .next) (omega arith) (omega arith))
       ∙ signed-digits (i .sign) (i .magnitude) (59 ∷ []) (st .fits)
       )
       )
@@ -103,16 +117,27 @@ module _ (s : List ℕ) (at : ℕ) (x : Text) where
       let w : Spelling = q .spelling in
       let n : ℕ = length (q .text) in
       let tail : List ℕ = 58 ∷ 34 ∷ q .text ++ (34 ∷ 59 ∷ []) in
-      let e : drop at s ≡ 115 ∷ 58 ∷ writeNumber w n (tail ++ drop (x .next) s) = st .written ∙ ap (λ (y : List ℕ). 115 ∷ 58 ∷ writeNumber w n (58 ∷ 34 ∷ y)) (sym (append-assoc (q .text) (34 ∷ 59 ∷ []) (drop (x .next) s))) in
+      let e : drop at s ≡ 115 ∷ 58 ∷ writeNumber w n (tail ++ drop (x .next) s) =
+      st .written ∙ ap (λ (y : List ℕ). 115 ∷ 58 ∷ writeNumber w n (58 ∷ 34 ∷ y)) (sym (append-assoc (q .text) (34 ∷ 59 ∷ []) (drop (x .next) s))) in
       let c : x .content ≡ at + 1 + 3 + length (writeNumber w n []) = ap (λ (u : Text). u .content) (st .tells) in
       by-tag 115 _ _ e (
       ap (λ (k : ℕ). numberedText s at k (x .content - 2) (x .next)) (ap (λ (u : Text). u .size) (st .tells))
       ∙ numbered-is s at 115 w n n tail (drop (x .next) s) e (x .content - 2) (x .next) (omega (arith, number-length w n [], spelled-length (w .zeros) n))
-      (omega (arith, number-length w n [], number-length w n (tail ++ drop (x .next) s), length-append tail (drop (x .next) s), st .inside, length-drop at s, length-drop (x .next) s, ap length e))
+      (omega (
+        arith,
+        number-length w n [],
+        number-length w n (tail ++ drop (x .next) s),
+        length-append tail (drop (x .next) s),
+        st .inside,
+        length-drop at s,
+        length-drop (x .next) s,
+        ap length e,
+      ))
       )
 
   -- a number m in the place of the n before a tail that ends the token
-  pub tail-of : (b : ℕ) (w : Spelling) (n m k : ℕ) (tail : List ℕ) → x .next ≤ length s → drop at s ≡ b ∷ 58 ∷ writeNumber w n (tail ++ drop (x .next) s) → k ≡ length tail
+  pub tail-of : (b : ℕ) (w : Spelling) (n m k : ℕ) (tail : List ℕ) → x .next ≤ length s → drop at s ≡ b ∷ 58 ∷ writeNumber w n (tail ++ drop (x .next) s)
+      → k ≡ length tail
       → numberedText s at m (x .next - k) (x .next) ≡ b ∷ 58 ∷ writeNumber shortest m tail
   tail-of b w n m k tail h e f =
       let z : x .next ≡ at + 2 + length (spelled (w .zeros) n) + length tail = omega (
@@ -144,7 +169,9 @@ module _ (s : List ℕ) (at : ℕ) (x : Text) where
       referred variableRef = refl
 
       named : numberedText s at (x .content) (x .next - 1) (x .next) ≡ writeToken (canonicalToken (reference (record { kind = k; spelling = w; named = n }))) []
-      named = ap (λ (c : ℕ). numberedText s at c (x .next - 1) (x .next)) (ap (λ (u : Text). u .content) (st .tells)) ∙ tail-of (tag (refKind k)) w n n 1 (59 ∷ []) (st .inside) (st .written) refl
+      named =
+          ap (λ (c : ℕ). numberedText s at c (x .next - 1) (x .next)) (ap (λ (u : Text). u .content) (st .tells))
+          ∙ tail-of (tag (refKind k)) w n n 1 (59 ∷ []) (st .inside) (st .written) refl
 
   respelled-object : (q : Quoted) (v : Spelling) (n : ℕ) → Stands s at (opening (record { container = object q; spelling = v }) n) x
       → shortestText s at x ≡ writeToken (canonicalToken (opening (record { container = object q; spelling = v }) n)) []
@@ -155,17 +182,24 @@ module _ (s : List ℕ) (at : ℕ) (x : Text) where
       let rest : List ℕ = writeNumber v n (58 ∷ 123 ∷ r) in
       let tail : List ℕ = 58 ∷ 34 ∷ q .text ++ (34 ∷ 58 ∷ []) in
       let before : List ℕ = writeNumber w m tail ++ spelled (v .zeros) n in
-      let e : drop at s ≡ 79 ∷ 58 ∷ writeNumber w m (tail ++ rest) = st .written ∙ ap (λ (y : List ℕ). 79 ∷ 58 ∷ writeNumber w m (58 ∷ 34 ∷ y)) (sym (append-assoc (q .text) (34 ∷ 58 ∷ []) rest)) in
-      let f : drop at s ≡ (79 ∷ 58 ∷ before) ++ (58 ∷ 123 ∷ r) = e ∙ ap {B = List ℕ} (λ y. 79 ∷ 58 ∷ y) (number-front w m tail rest ∙ sym (append-assoc (writeNumber w m tail) (spelled (v .zeros) n) (58 ∷ 123 ∷ r))) in
-      let len : x .next ≡ at + 2 + length before + 2 = omega (arith, st .inside, length-drop at s, length-drop (x .next) s, ap length f, length-append before (58 ∷ 123 ∷ r)) in
+      let e : drop at s ≡ 79 ∷ 58 ∷ writeNumber w m (tail ++ rest) =
+      st .written ∙ ap (λ (y : List ℕ). 79 ∷ 58 ∷ writeNumber w m (58 ∷ 34 ∷ y)) (sym (append-assoc (q .text) (34 ∷ 58 ∷ []) rest)) in
+      let f : drop at s ≡ (79 ∷ 58 ∷ before) ++ (58 ∷ 123 ∷ r) =
+      e ∙ ap {B = List ℕ} (λ y. 79 ∷ 58 ∷ y) (number-front w m tail rest ∙ sym (append-assoc (writeNumber w m tail) (spelled (v .zeros) n) (58 ∷ 123 ∷ r))) in
+      let len : x .next ≡ at + 2 + length before + 2 =
+      omega (arith, st .inside, length-drop at s, length-drop (x .next) s, ap length f, length-append before (58 ∷ 123 ∷ r)) in
       let c : x .content ≡ at + 1 + 3 + length (writeNumber w m []) = ap (λ (u : Text). u .content) (st .tells) in
       let z : x .size ≡ m = ap (λ (u : Text). u .size) (st .tells) in
       let named : numberedText s at m (x .content - 2) (x .content + x .size + 2) ≡ 79 ∷ 58 ∷ writeNumber shortest m tail
-      = numbered-is s at 79 w m m tail rest e (x .content - 2) (x .content + x .size + 2) (omega (arith, number-length w m [], spelled-length (w .zeros) m)) (omega (arith, length-append (q .text) (34 ∷ 58 ∷ []))) in
-      let brace : slice (x .next - 2) (x .next) s ≡ 58 ∷ 123 ∷ [] = slice-of s at (79 ∷ 58 ∷ before) (58 ∷ 123 ∷ []) r f (x .next - 2) (x .next) (omega arith) (omega arith) in
+      = numbered-is s at 79 w m m tail rest e (x .content - 2) (x .content + x .size + 2) (omega (arith, number-length w m [], spelled-length (w .zeros) m))
+      (omega (arith, length-append (q .text) (34 ∷ 58 ∷ []))) in
+      let brace : slice (x .next - 2) (x .next) s ≡ 58 ∷ 123 ∷ [] =
+      slice-of s at (79 ∷ 58 ∷ before) (58 ∷ 123 ∷ []) r f (x .next - 2) (x .next) (omega arith) (omega arith) in
       by-tag 79 _ _ (st .written) (
-      ap₂ _++_ (ap (λ (k : ℕ). numberedText s at k (x .content - 2) (x .content + x .size + 2)) z ∙ named) (ap₂ (λ (k : ℕ) (l : List ℕ). decimal k ++ l) (ap (λ (u : Text). u .link) (st .tells)) brace)
-      ∙ ap {B = List ℕ} (λ y. 79 ∷ 58 ∷ y) (sym (number-front shortest m tail (decimal n ++ (58 ∷ 123 ∷ []))) ∙ ap (λ (y : List ℕ). writeNumber shortest m (58 ∷ 34 ∷ y)) (append-assoc (q .text) (34 ∷ 58 ∷ []) (decimal n ++ (58 ∷ 123 ∷ []))))
+      ap₂ _++_ (ap (λ (k : ℕ). numberedText s at k (x .content - 2) (x .content + x .size + 2)) z ∙ named)
+      (ap₂ (λ (k : ℕ) (l : List ℕ). decimal k ++ l) (ap (λ (u : Text). u .link) (st .tells)) brace)
+      ∙ ap {B = List ℕ} (λ y. 79 ∷ 58 ∷ y) (sym (number-front shortest m tail (decimal n ++ (58 ∷ 123 ∷ [])))
+      ∙ ap (λ (y : List ℕ). writeNumber shortest m (58 ∷ 34 ∷ y)) (append-assoc (q .text) (34 ∷ 58 ∷ []) (decimal n ++ (58 ∷ 123 ∷ []))))
       )
 
   respelled-opening : (c : Container) (w : Spelling) (n : ℕ) → Stands s at (opening (record { container = c; spelling = w }) n) x
@@ -187,14 +221,17 @@ module _ (s : List ℕ) (at : ℕ) (x : Text) where
 -- ---- raised
 
 module _ (k : ℕ) (s : List ℕ) (at : ℕ) (x : Text) where
-  raised-reference : (r : Reference) → Stands s at (reference r) x → ReferenceTag (getD s at 0) → raisedText k s at x ≡ writeToken (raisedToken k (reference r)) []
+  raised-reference : (r : Reference) → Stands s at (reference r) x → ReferenceTag (getD s at 0)
+      → raisedText k s at x ≡ writeToken (raisedToken k (reference r)) []
   raised-reference r st o = by (order (r .named) k)
     where
       named : x .content ≡ r .named
       named = ap (λ (u : Text). u .content) (st .tells)
 
       by : Order (r .named) k → raisedText k s at x ≡ writeToken (raisedToken k (reference r)) []
-      by (below h) = raised-low k s at x o (omega (arith, named)) ∙ whole s at x (reference r) st ∙ ap (λ (q : Reference). writeToken (reference q) []) (sym (meanings.raised-low k r h))
+      by (below h) =
+          raised-low k s at x o (omega (arith, named)) ∙ whole s at x (reference r) st
+          ∙ ap (λ (q : Reference). writeToken (reference q) []) (sym (meanings.raised-low k r h))
       by (above h) =
           raised-high k s at x o (omega (arith, named))
           ∙ ap (λ (m : ℕ). numberedText s at m (x .next - 1) (x .next)) (add-one (x .content) ∙ ap suc named)
@@ -211,7 +248,8 @@ module _ (k : ℕ) (s : List ℕ) (at : ℕ) (x : Text) where
   -- A REFERENCE RAISED, ALL ELSE AS IT STANDS
   pub raised-is : (t : Token) → Stands s at t x → raisedText k s at x ≡ writeToken (raisedToken k t) []
   raised-is (scalar y) st = other (scalar y) st (λ e. e)
-  raised-is (reference r) st = raised-reference r st (subst ReferenceTag (sym (first-of (reference r) st)) (tagged (reference r) (drop (x .next) s) .referred tt))
+  raised-is (reference r) st =
+      raised-reference r st (subst ReferenceTag (sym (first-of (reference r) st)) (tagged (reference r) (drop (x .next) s) .referred tt))
   raised-is (opening h n) st = other (opening h n) st (λ e. e)
   raised-is closing st = other closing st (λ e. e)
 
@@ -233,7 +271,8 @@ changed-is (Change.Raise k) s at x t st = raised-is k s at x t st
 
 module _ (s : List ℕ) (at : ℕ) (x : Text) where
   bounded : (t : Token) → Stands s at t x → (b : ℕ) (r : List ℕ) → drop at s ≡ b ∷ r → ((b ≡ byte "}" → ⊥) → 2 ≤ length (writeToken t []))
-      → (b ≡ tag Kind.int → 4 ≤ length (writeToken t [])) → (b ≡ tag Kind.string → QuotedBounds at x) → (b ≡ tag Kind.object → QuotedBounds at x) → Bounds s at x
+      → (b ≡ tag Kind.int → 4 ≤ length (writeToken t [])) → (b ≡ tag Kind.string → QuotedBounds at x) → (b ≡ tag Kind.object → QuotedBounds at x)
+      → Bounds s at x
   bounded t st b r e more num str obj =
       let tagged : getD s at 0 ≡ b = first-byte s at b r e in
       let next : x .next ≡ at + length (writeToken t []) = ends s at x t st in
@@ -247,12 +286,19 @@ module _ (s : List ℕ) (at : ℕ) (x : Text) where
       }
 
   -- a token without quotes, whose tag is known
-  plain : (t : Token) → Stands s at t x → (b : ℕ) (r : List ℕ) → drop at s ≡ b ∷ r → 2 ≤ length (writeToken t []) → (b ≡ tag Kind.int → ⊥) → (b ≡ tag Kind.string → ⊥) → (b ≡ tag Kind.object → ⊥) → Bounds s at x
+  plain : (t : Token) → Stands s at t x → (b : ℕ) (r : List ℕ) → drop at s ≡ b ∷ r → 2 ≤ length (writeToken t []) → (b ≡ tag Kind.int → ⊥)
+      → (b ≡ tag Kind.string → ⊥) → (b ≡ tag Kind.object → ⊥) → Bounds s at x
   plain t st b r e h m n o = bounded t st b r e (λ i. h) (λ i. absurd (m i)) (λ i. absurd (n i)) (λ i. absurd (o i))
 
   -- a sign or none, a digit or more, and the semicolon
   int-length : (i : Literal) → 4 ≤ length (writeToken (scalar (int i)) [])
-  int-length i = omega (arith, ap length (sign-front (i .sign) (spelled (i .zeros) (i .magnitude)) (59 ∷ [])), length-append (writeSign (i .sign) (spelled (i .zeros) (i .magnitude))) (59 ∷ []), signed (i .sign))
+  int-length i =
+      omega (
+        arith,
+        ap length (sign-front (i .sign) (spelled (i .zeros) (i .magnitude)) (59 ∷ [])),
+        length-append (writeSign (i .sign) (spelled (i .zeros) (i .magnitude))) (59 ∷ []),
+        signed (i .sign),
+      )
     where
       signed : (g : Sign) → 1 ≤ length (writeSign g (spelled (i .zeros) (i .magnitude)))
       signed unsigned = omega (arith, spelled-some (i .zeros) (i .magnitude))
@@ -283,21 +329,34 @@ module _ (s : List ℕ) (at : ℕ) (x : Text) where
       }
 
   opening-bounds : (c : Container) (w : Spelling) (n : ℕ) → Stands s at (opening (record { container = c; spelling = w }) n) x → Bounds s at x
-  opening-bounds array w n st = plain (opening (record { container = array; spelling = w }) n) st 97 _ (st .written) (omega arith) (λ i. omega (arith, i)) (λ i. omega (arith, i)) (λ i. omega (arith, i))
+  opening-bounds array w n st =
+      plain (opening (record { container = array; spelling = w }) n) st 97 _ (st .written) (omega arith) (λ i. omega (arith, i)) (λ i. omega (arith, i))
+      (λ i. omega (arith, i))
   opening-bounds (object q) w n st =
-      bounded (opening (record { container = object q; spelling = w }) n) st 79 _ (st .written) (λ i. omega arith) (λ i. absurd (omega (arith, i))) (λ i. absurd (omega (arith, i))) (λ i. object-bounds q w n st)
+      bounded (opening (record { container = object q; spelling = w }) n) st 79 _ (st .written) (λ i. omega arith) (λ i. absurd (omega (arith, i)))
+      (λ i. absurd (omega (arith, i))) (λ i. object-bounds q w n st)
 
   reference-bounds : (k : RefKind) (w : Spelling) (n : ℕ) → Stands s at (reference (record { kind = k; spelling = w; named = n })) x → Bounds s at x
-  reference-bounds objectRef w n st = plain (reference (record { kind = objectRef; spelling = w; named = n })) st 114 _ (st .written) (omega arith) (λ i. omega (arith, i)) (λ i. omega (arith, i)) (λ i. omega (arith, i))
-  reference-bounds variableRef w n st = plain (reference (record { kind = variableRef; spelling = w; named = n })) st 82 _ (st .written) (omega arith) (λ i. omega (arith, i)) (λ i. omega (arith, i)) (λ i. omega (arith, i))
+  reference-bounds objectRef w n st =
+      plain (reference (record { kind = objectRef; spelling = w; named = n })) st 114 _ (st .written) (omega arith) (λ i. omega (arith, i))
+      (λ i. omega (arith, i)) (λ i. omega (arith, i))
+  reference-bounds variableRef w n st =
+      plain (reference (record { kind = variableRef; spelling = w; named = n })) st 82 _ (st .written) (omega arith) (λ i. omega (arith, i))
+      (λ i. omega (arith, i)) (λ i. omega (arith, i))
 
   pub bounds : (t : Token) → Stands s at t x → Bounds s at x
   bounds (scalar null) st = plain (scalar null) st 78 _ (st .written) (omega arith) (λ i. omega (arith, i)) (λ i. omega (arith, i)) (λ i. omega (arith, i))
-  bounds (scalar (bool b)) st = plain (scalar (bool b)) st 98 _ (st .written) (omega arith) (λ i. omega (arith, i)) (λ i. omega (arith, i)) (λ i. omega (arith, i))
+  bounds (scalar (bool b)) st =
+      plain (scalar (bool b)) st 98 _ (st .written) (omega arith) (λ i. omega (arith, i)) (λ i. omega (arith, i)) (λ i. omega (arith, i))
   bounds (scalar (int i)) st =
       bounded (scalar (int i)) st 105 _ (st .written) (λ n. omega arith) (λ n. int-length i) (λ n. absurd (omega (arith, n))) (λ n. absurd (omega (arith, n)))
-  bounds (scalar (float f)) st = plain (scalar (float f)) st 100 _ (st .written) (omega arith) (λ i. omega (arith, i)) (λ i. omega (arith, i)) (λ i. omega (arith, i))
-  bounds (scalar (string q)) st = bounded (scalar (string q)) st 115 _ (st .written) (λ i. omega arith) (λ i. absurd (omega (arith, i))) (λ i. string-bounds q st) (λ i. absurd (omega (arith, i)))
+  bounds (scalar (float f)) st =
+      plain (scalar (float f)) st 100 _ (st .written) (omega arith) (λ i. omega (arith, i)) (λ i. omega (arith, i)) (λ i. omega (arith, i))
+  bounds (scalar (string q)) st =
+      bounded (scalar (string q)) st 115 _ (st .written) (λ i. omega arith) (λ i. absurd (omega (arith, i))) (λ i. string-bounds q st)
+      (λ i. absurd (omega (arith, i)))
   bounds (reference r) st = reference-bounds (r .kind) (r .spelling) (r .named) st
   bounds (opening h n) st = opening-bounds (h .container) (h .spelling) n st
-  bounds closing st = bounded closing st 125 _ (st .written) (λ n. absurd (n refl)) (λ i. absurd (omega (arith, i))) (λ i. absurd (omega (arith, i))) (λ i. absurd (omega (arith, i)))
+  bounds closing st =
+      bounded closing st 125 _ (st .written) (λ n. absurd (n refl)) (λ i. absurd (omega (arith, i))) (λ i. absurd (omega (arith, i)))
+      (λ i. absurd (omega (arith, i)))

@@ -25,7 +25,8 @@ use Rattle.rewriting.proofs.Respelled.{changed-is, bounds, named}
 
 module _ (c : Change) (s : List ℕ) (at to : ℕ) where
   -- a token, and what follows it
-  rewritten-more : (x : Text) → at < to → Found readToken (tokenTold at) s at x → rewrittenText c s at to ≡ respelledText c s at x ++ rewrittenText c s (x .next) to
+  rewritten-more : (x : Text) → at < to → Found readToken (tokenTold at) s at x
+      → rewrittenText c s at to ≡ respelledText c s at x ++ rewrittenText c s (x .next) to
   rewritten-more x h f =
       let more : List ℕ = rewrittenText c s (x .next) to in
       ap (changedText c) (between-more s at to (f .what) (x .next) h (omega (arith, f .on, f .inside)) (f .is 0))
@@ -67,12 +68,15 @@ module _ {c : Change} {s : List ℕ} {from to at : ℕ} (k : Keeps c s from to a
     halts e = record { before = h; found = f; changes = stays .changes e }
 
     pub keeps-more : r ≡ true → Keeps c s from to (x .next)
-    keeps-more e = keeps-on (x .next) (omega (arith, f .on)) (f .inside) (rewritten-more c s at to x h f ∙ ap (λ (l : List ℕ). l ++ rewrittenText c s (x .next) to) (stays .kept e))
+    keeps-more e =
+        keeps-on (x .next) (omega (arith, f .on)) (f .inside)
+        (rewritten-more c s at to x h f ∙ ap (λ (l : List ℕ). l ++ rewrittenText c s (x .next) to) (stays .kept e))
 
 -- what ended it
 module _ {c : Change} {s : List ℕ} {from to : ℕ} where
   pub halted-of : {r : Stop} {at : ℕ} {x : Text} → Stops c s from to r → r ≡ Stop.Token at x → Keeps c s from to at × Halts c s to at x
-  halted-of {at = n} (halted a y k h) i = (subst (Keeps c s from to) (there i) k, subst (λ (u : Text). Halts c s to n u) (told i) (subst (λ (m : ℕ). Halts c s to m y) (there i) h))
+  halted-of {at = n} (halted a y k h) i =
+      (subst (Keeps c s from to) (there i) k, subst (λ (u : Text). Halts c s to n u) (told i) (subst (λ (m : ℕ). Halts c s to m y) (there i) h))
     where
       there : {m n : ℕ} {u v : Text} → Stop.Token m u ≡ Stop.Token n v → m ≡ n
       there j = cc
@@ -108,7 +112,8 @@ rewriting-none s from to c w out h = record { inside = h; owes = owes-all (rewri
 pub nothing-outside : (s : List ℕ) (from to : ℕ) (c : Change) (w : ℕ) (out : List ℕ) → length s ≤ from → Puts (rewrittenText c s from to) w out w out
 nothing-outside s from to c w out h = owes-none (owes-all (rewrittenText c s from to) w out) (ap (changedText c) (between-outside s from to h))
 
-module _ {s : List ℕ} {from to : ℕ} {c : Change} {w₀ : ℕ} {out₀ : List ℕ} {kept w : ℕ} {out : List ℕ} (r : Rewriting s from to c w₀ out₀ kept w out) {at : ℕ} (k : Keeps c s kept to at) where
+module _ {s : List ℕ} {from to : ℕ} {c : Change} {w₀ : ℕ} {out₀ : List ℕ} {kept w : ℕ} {out : List ℕ} (r : Rewriting s from to c w₀ out₀ kept w out) {at : ℕ}
+    (k : Keeps c s kept to at) where
   pub stretch-bounds : Within (rewrittenText c s from to) w₀ → (kept ≤ at) × (at ≤ length s) × Within (slice kept at s) w
   stretch-bounds a = (k .on, k .inside, owes-within (r .owes) (slice kept at s) (rewrittenText c s at to) (k .split) a)
 
@@ -125,8 +130,13 @@ module _ {s : List ℕ} {from to : ℕ} {c : Change} {w₀ : ℕ} {out₀ : List
 
       pub token-bounds : Within (rewrittenText c s from to) w₀ → Bounds s at x × Named s at x × Changes c s at x × Within (respelledText c s at x) e
       token-bounds a =
-          let st : Stands s at (h .found .what) x = found-stands s at x (h .found) in
-          (bounds s at x (h .found .what) st, named 0 s at x (h .found .what) st, h .changes, owes-within behind (respelledText c s at x) (rewrittenText c s (x .next) to) more a)
+          let st : Stands s at (h .found .what) x = found-stands s at x (h .found) in (
+            bounds s at x (h .found .what) st,
+            named 0 s at x (h .found .what) st,
+            h .changes,
+            owes-within behind (respelledText c s at x) (rewrittenText c s (x .next) to) more a,
+          )
 
-      pub rewriting-more : {e₂ : ℕ} {out₂ : List ℕ} → Puts (respelledText c s at x) e out₁ e₂ out₂ → length out₂ ≡ length out₁ → Rewriting s from to c w₀ out₀ (x .next) e₂ out₂
+      pub rewriting-more : {e₂ : ℕ} {out₂ : List ℕ} → Puts (respelledText c s at x) e out₁ e₂ out₂ → length out₂ ≡ length out₁
+          → Rewriting s from to c w₀ out₀ (x .next) e₂ out₂
       rewriting-more q m = record { inside = h .found .inside; owes = owes-more behind (rewrittenText c s (x .next) to) more q m }

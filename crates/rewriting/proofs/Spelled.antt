@@ -2,7 +2,7 @@
 use Prim.Native.Nat.{ℕ, _+_, _-_, _≤_, _<_}
 use native.Mathlib.Omega.{arith}
 use mathlib.Core.Path.{_≡_, refl, ap, ap₂}
-use mathlib.Core.Logic.{_⊎_, inl, inr, ⊎-elim}
+use mathlib.Core.Logic.{inl, inr, ⊎-elim}
 use mathlib.Core.Bool.{Bool, true, false, _&&_}
 use mathlib.Core.List.{List, [], _∷_}
 use lib.Dec.{leb}
@@ -37,7 +37,8 @@ module _ (s : List ℕ) (at : ℕ) (x : Text) where
   unfolding shortestText
   reference-text o = ⊎-elim (λ i. rw i) (λ i. rw i) o
 
-  pub copied-text : (getD s at 0 ≡ tag Kind.int → ⊥) → (getD s at 0 ≡ tag Kind.string → ⊥) → (getD s at 0 ≡ tag Kind.array → ⊥) → (getD s at 0 ≡ tag Kind.object → ⊥) → (ReferenceTag (getD s at 0) → ⊥)
+  pub copied-text : (getD s at 0 ≡ tag Kind.int → ⊥) → (getD s at 0 ≡ tag Kind.string → ⊥) → (getD s at 0 ≡ tag Kind.array → ⊥)
+      → (getD s at 0 ≡ tag Kind.object → ⊥) → (ReferenceTag (getD s at 0) → ⊥)
       → shortestText s at x ≡ slice at (x .next) s
   unfolding shortestText
   copied-text n₁ n₂ n₃ n₄ n₅ =
@@ -57,7 +58,8 @@ referring : (b : ℕ) → ReferenceTag b → isTagOf (Kind.objectReference ∷ K
 referring b o = ⊎-elim (λ i. rw i) (λ i. rw i) o
 
 module _ (k : ℕ) (s : List ℕ) (at : ℕ) (x : Text) where
-  raised-as : (a b : Bool) → isTagOf (Kind.objectReference ∷ Kind.variableReference ∷ []) (getD s at 0) ≡ a → leb k (x .content) ≡ b → raisedText k s at x ≡ raisedIf (a && b) s at x
+  raised-as : (a b : Bool) → isTagOf (Kind.objectReference ∷ Kind.variableReference ∷ []) (getD s at 0) ≡ a → leb k (x .content) ≡ b
+      → raisedText k s at x ≡ raisedIf (a && b) s at x
   unfolding raisedText
   raised-as a b e f = ap₂ (λ (p q : Bool). raisedIf (p && q) s at x) e f
 

@@ -51,7 +51,8 @@ no-zeros (suc z) n r (fronts.alone h) = absurd (omega (arith, h, spelled-first z
 no-zeros (suc z) n r (fronts.minus h i) = absurd (omega (arith, h))
 
 -- AND AN INTEGER
-shortest-integer : (g : Sign) (z n : ℕ) (r : List ℕ) → ShortestFront (getD (writeSign g (spelled z n ++ r)) 0 0) (getD (writeSign g (spelled z n ++ r)) 1 0) → (shortestSign g n ≡ g) × (z ≡ 0)
+shortest-integer : (g : Sign) (z n : ℕ) (r : List ℕ) → ShortestFront (getD (writeSign g (spelled z n ++ r)) 0 0) (getD (writeSign g (spelled z n ++ r)) 1 0)
+    → (shortestSign g n ≡ g) × (z ≡ 0)
 shortest-integer unsigned z n r f = (refl, no-zeros z n r f)
 shortest-integer plus z n r (fronts.digit h) = absurd (omega (arith, h))
 shortest-integer plus z n r (fronts.alone h) = absurd (omega (arith, h, spelled-first z n r))
@@ -71,7 +72,8 @@ abbrev Unnumbered : ℕ → Type 0
 Unnumbered b = (b ≡ tag Kind.null) ⊎ ((b ≡ tag Kind.bool) ⊎ ((b ≡ tag Kind.float) ⊎ (b ≡ byte "}")))
 
 -- the bytes behind a tag and its colon
-pub front-of : (s : List ℕ) (at b : ℕ) (l : List ℕ) → drop at s ≡ b ∷ 58 ∷ l → ShortestFront (getD s (at + 2) 0) (getD s (at + 3) 0) → ShortestFront (getD l 0 0) (getD l 1 0)
+pub front-of : (s : List ℕ) (at b : ℕ) (l : List ℕ) → drop at s ≡ b ∷ 58 ∷ l → ShortestFront (getD s (at + 2) 0) (getD s (at + 3) 0)
+    → ShortestFront (getD l 0 0) (getD l 1 0)
 front-of s at b l e f =
     subst (λ (j : ℕ). ShortestFront (getD l 0 0) j) (sym (getD-drop at s 3 0) ∙ ap (λ (m : List ℕ). getD m 3 0) e)
     (subst (λ (i : ℕ). ShortestFront i (getD s (at + 3) 0)) (sym (getD-drop at s 2 0) ∙ ap (λ (m : List ℕ). getD m 2 0) e) f)
@@ -82,9 +84,12 @@ module _ (s : List ℕ) (at : ℕ) (x : Text) where
   unnumbered-text o = ⊎-elim (λ i. rw i) (λ o. ⊎-elim (λ i. rw i) (λ o. ⊎-elim (λ i. rw i) (λ i. rw i) o) o) o
 
   module _ (n : getD s at 0 ≡ tag Kind.object → ⊥) where
-    same-opening : (c : Container) (w : Spelling) (k : ℕ) → Stands s at (opening (record { container = c; spelling = w }) k) x → ShortestFront (getD s (at + 2) 0) (getD s (at + 3) 0)
+    same-opening : (c : Container) (w : Spelling) (k : ℕ) → Stands s at (opening (record { container = c; spelling = w }) k) x
+        → ShortestFront (getD s (at + 2) 0) (getD s (at + 3) 0)
         → canonicalToken (opening (record { container = c; spelling = w }) k) ≡ opening (record { container = c; spelling = w }) k
-    same-opening array w k st f = ap (λ (z : ℕ). opening (record { container = array; spelling = record { zeros = z } }) k) (sym (no-zeros (w .zeros) k _ (front-of s at 97 _ (st .written) f)))
+    same-opening array w k st f =
+        ap (λ (z : ℕ). opening (record { container = array; spelling = record { zeros = z } }) k)
+        (sym (no-zeros (w .zeros) k _ (front-of s at 97 _ (st .written) f)))
     same-opening (object q) w k st f = absurd (n (first-byte s at 79 _ (st .written)))
 
     same-token : (t : Token) → Stands s at t x → ShortestFront (getD s (at + 2) 0) (getD s (at + 3) 0) → canonicalToken t ≡ t
@@ -95,8 +100,12 @@ module _ (s : List ℕ) (at : ℕ) (x : Text) where
         ap (λ (g : Sign). scalar (int (record { sign = g; zeros = 0; magnitude = i .magnitude }))) (p .0)
         ∙ ap (λ (z : ℕ). scalar (int (record { sign = i .sign; zeros = z; magnitude = i .magnitude }))) (sym (p .1))
     same-token (scalar (float t)) st f = refl
-    same-token (scalar (string q)) st f = ap (λ (z : ℕ). scalar (string (record { spelling = record { zeros = z }; text = q .text }))) (sym (no-zeros (q .spelling .zeros) (length (q .text)) _ (front-of s at 115 _ (st .written) f)))
-    same-token (reference r) st f = ap (λ (z : ℕ). reference (record { kind = r .kind; spelling = record { zeros = z }; named = r .named })) (sym (no-zeros (r .spelling .zeros) (r .named) _ (front-of s at _ _ (st .written) f)))
+    same-token (scalar (string q)) st f =
+        ap (λ (z : ℕ). scalar (string (record { spelling = record { zeros = z }; text = q .text })))
+        (sym (no-zeros (q .spelling .zeros) (length (q .text)) _ (front-of s at 115 _ (st .written) f)))
+    same-token (reference r) st f =
+        ap (λ (z : ℕ). reference (record { kind = r .kind; spelling = record { zeros = z }; named = r .named }))
+        (sym (no-zeros (r .spelling .zeros) (r .named) _ (front-of s at _ _ (st .written) f)))
     same-token (opening h k) st f = same-opening (h .container) (h .spelling) k st f
     same-token closing st f = refl
 
@@ -150,14 +159,17 @@ module _ {c : Change} (s : List ℕ) (at : ℕ) (x : Text) where
   pub object-changes : c ≡ Change.Canonical → Stays c s at x false
   object-changes e = record { kept = λ i. absurd (differ (sym i)); changes = λ i. rewritten-whatever e }
 
-  pub number-stays : Found readToken (tokenTold at) s at x → c ≡ Change.Canonical → (getD s at 0 ≡ tag Kind.object → ⊥) → (r : Bool) → (r ≡ true → ShortestFront (getD s (at + 2) 0) (getD s (at + 3) 0)) → Stays c s at x r
+  pub number-stays : Found readToken (tokenTold at) s at x → c ≡ Change.Canonical → (getD s at 0 ≡ tag Kind.object → ⊥) → (r : Bool)
+      → (r ≡ true → ShortestFront (getD s (at + 2) 0) (getD s (at + 3) 0)) → Stays c s at x r
   number-stays f e n r g = record { kept = λ i. same (g i); changes = λ i. rewritten-whatever e }
     where
       st : Stands s at (f .what) x
       st = found-stands s at x f
 
       same : ShortestFront (getD s (at + 2) 0) (getD s (at + 3) 0) → respelledText c s at x ≡ slice at (x .next) s
-      same h = as-canonical s at x e ∙ respelled s at x (f .what) st ∙ ap (λ (t : Token). writeToken t []) (same-token s at x n (f .what) st h) ∙ sym (whole s at x (f .what) st)
+      same h =
+          as-canonical s at x e ∙ respelled s at x (f .what) st ∙ ap (λ (t : Token). writeToken t []) (same-token s at x n (f .what) st h)
+          ∙ sym (whole s at x (f .what) st)
 
   module _ {k : ℕ} (e : c ≡ Change.Raise k) where
     pub reference-stays : ReferenceTag (getD s at 0) → x .content < k → Stays c s at x true

@@ -27,7 +27,8 @@ grownHead s p = numberedText s (p .at) (p .count + 1) (p .inside - 2) (p .inside
 abbrev pub insertedText : (s key value : List ℕ) → Spot → List ℕ
 insertedText s key value p =
     rewrittenText (Change.Raise (p .ordinal)) s 0 (p .at)
-    ++ (grownHead s p ++ (rewrittenText (Change.Raise (p .ordinal)) s (p .inside) (p .gap) ++ (key ++ (value ++ rewrittenText (Change.Raise (p .ordinal)) s (p .gap) (length s)))))
+    ++ (grownHead s p ++ (rewrittenText (Change.Raise (p .ordinal)) s (p .inside) (p .gap)
+    ++ (key ++ (value ++ rewrittenText (Change.Raise (p .ordinal)) s (p .gap) (length s)))))
 
 abbrev pub editedText : (s : List ℕ) → Edit → (key value : List ℕ) → List ℕ
 editedText s Edit.Canonical key value = canonicalText s
@@ -47,7 +48,8 @@ writable n e key value = leb n sourceLimit && (leb key sourceLimit && (leb value
 
 -- WHAT WRITING ANSWERS AND LEAVES: the text and its length; nothing of any other edit
 pub data Edits (s : List ℕ) (e : Edit) (key value out out′ : List ℕ) : Edited → Type 0 where
-  written : (n : ℕ) → writable (length s) e (length key) (length value) ≡ true → Puts (editedText s e key value) 0 out n out′ → Edits s e key value out out′ (Edited.Written n)
+  written : (n : ℕ) → writable (length s) e (length key) (length value) ≡ true → Puts (editedText s e key value) 0 out n out′
+      → Edits s e key value out out′ (Edited.Written n)
   unfit : writable (length s) e (length key) (length value) ≡ false → out′ ≡ out → Edits s e key value out out′ Edited.Unfit
 
 -- a place between tokens: they fill the source before the array's head, behind it up to the gap, and from there on

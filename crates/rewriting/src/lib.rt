@@ -1,4 +1,5 @@
-// What is written of a source that is edited: its canonical text, or the source with a pair put in. Defined on any bytes; that it is the right text for a plan that was read is shown above.
+// What is written of a source that is edited: its canonical text, or the source with a pair put in. Defined on any bytes; that it is the
+// right text for a plan that was read is shown above.
 use crate::inserted::Spot;
 use crate::inserted::has_head;
 use crate::inserted::write_inserted;

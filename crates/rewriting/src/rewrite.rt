@@ -10,7 +10,8 @@ ghost use Rattle.rewriting.specs.Shortest.{Bounds};
 ghost use Rattle.rewriting.specs.Rewriting.{Named, respelledText, rewrittenText};
 ghost use Rattle.rewriting.specs.Stretches.{Changes};
 
-// What becomes of a token: it is written in canonical spelling; or a reference to an ordinal from this one on names the next, in shortest form, and all else is copied.
+// What becomes of a token: it is written in canonical spelling; or a reference to an ordinal from this one on names the next, in shortest
+// form, and all else is copied.
 pub enum Change {
     Canonical,
     Raise(u64),
@@ -18,7 +19,8 @@ pub enum Change {
 
 // The token at an index, whose text is known, changed: in canonical spelling, or a reference raised.
 fn respell(source: &[u8], at: usize, text: Text, change: Change, out: &mut [u8], w: usize) -> usize
-    requires { ⌜ Bounds (now source) at text × Named (now source) at text × Changes change (now source) at text × Within (respelledText change (now source) at text) w ⌝ }
+    requires { ⌜ Bounds (now source) at text × Named (now source) at text × Changes change (now source) at text
+        × Within (respelledText change (now source) at text) w ⌝ }
     ensures { λ r. ⌜ Puts (respelledText change (now (source .entry)) at text) w (now (out .entry)) r (now (out .exit)) ⌝ }
 {
     match change {

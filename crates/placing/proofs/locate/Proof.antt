@@ -20,10 +20,14 @@ same-length : tie.Need-same-length
 same-length c = search needs
 
 returns : tie.Need-returns
-returns c = locating.locates-unread (c .before .before .before .before .before .read .ensures) (c .before .before .before .before .before .before .before .before .before .before .before .args .array-node) (c .before .before .before .before .before .before .before .before .before .before .before .args .pair-index) (c .before .before .before .before .before .before .before .before .before .before .before .args .key .now) (c .before .before .before .before .before .before .before .before .before .before .before .args .value .now) (c .before .enum-told .given .1) (c .as-placing .ensures)
+returns c =
+    let read = c .before .before .before .before .before in
+    locating.locates-unread (read .read .ensures) _ _ _ _ (c .before .enum-told .given .1) (c .as-placing .ensures)
 
 place-requires : tie.Need-place-requires
-place-requires c κs = locating.given (c .before .before .before .before .before .before .read .ensures) (c .before .before .reading .given .1)
+place-requires c κs =
+    let known = c .before .before in
+    locating.given (known .before .before .before .before .read .ensures) (known .reading .given .1)
 
 enum-told-2 : tie.Need-enum-told-2
 enum-told-2 c = search needs
@@ -38,13 +42,23 @@ same-length-2 : tie.Need-same-length-2
 same-length-2 c = search needs
 
 returns-2 : tie.Need-returns-2
-returns-2 c = locating.locates-refused (c .before .before .before .before .before .before .before .before .before .before .before .before .before .read .ensures) (c .before .before .before .before .before .before .before .before .before .reading .given .1) (c .before .before .before .before .before .before .before .before .before .before .before .before .before .before .before .before .before .before .before .args .array-node) (c .before .before .before .before .before .before .before .before .before .before .before .before .before .before .before .before .before .before .before .args .pair-index) (c .before .before .before .before .before .before .before .before .before .before .before .before .before .before .before .before .before .before .before .args .key .now) (c .before .before .before .before .before .before .before .before .before .before .before .before .before .before .before .before .before .before .before .args .value .now) (c .before .before .before .before .before .before .place .ensures) (c .before .before .before .before .enum-told3 .given .1) (c .before .before .clear .ensures)
+returns-2 c =
+    let told = c .before .before .before .before in
+    let placed = told .before .before in
+    let known = placed .before .before .before in
+    let read = known .before .before .before .before in
+    locating.locates-refused (read .read .ensures) (known .reading .given .1) _ _ _ _ (placed .place .ensures) (told .enum-told3 .given .1)
+    (c .before .before .clear .ensures)
 
 same-length-3 : tie.Need-same-length-3
 same-length-3 c = search needs
 
 returns-3 : tie.Need-returns-3
-returns-3 c = locating.locates-at (c .before .before .before .before .before .before .before .before .before .read .ensures) (c .before .before .before .before .before .reading .given .1) (c .before .before .before .before .before .before .before .before .before .before .before .before .before .before .before .args .array-node) (c .before .before .before .before .before .before .before .before .before .before .before .before .before .before .before .args .pair-index) (c .before .before .before .before .before .before .before .before .before .before .before .before .before .before .before .args .key .now) (c .before .before .before .before .before .before .before .before .before .before .before .before .before .before .before .args .value .now) (c .before .before .place .ensures) (c .enum-told2 .given .1)
+returns-3 c =
+    let placed = c .before .before in
+    let known = placed .before .before .before in
+    let read = known .before .before .before .before in
+    locating.locates-at (read .read .ensures) (known .reading .given .1) _ _ _ _ (placed .place .ensures) (c .enum-told2 .given .1)
 
 pub locate-spec : {M : Type 1} → statement M
 locate-spec =

@@ -1,5 +1,4 @@
 -- `rewriting::can_write` meets its contract. Assumes nothing.
-use native.Mathlib.Omega.{arith}
 use mathlib.Core.Path.{sym, _∙_}
 use Rattle.rewriting.proofs.Editable as editable
 use borrow.Author.Needs.{needs}
@@ -7,13 +6,19 @@ use Rattle.rewriting.proofs.can_write.Statement.{statement}
 use Rattle.rewriting.proofs.can_write.Tie as tie
 
 returns : tie.Need-returns
-returns c = sym (editable.source-long (c .before .args .size) (c .before .args .edit) (c .before .args .key) (c .before .args .value) (omega (arith, c .if1 .taken)))
+returns c =
+    let args = c .before .args in
+    sym (editable.source-long _ (args .edit) (args .key) (args .value) (c .if1 .taken))
 
 returns-2 : tie.Need-returns-2
-returns-2 c = sym (editable.key-long (c .before .before .args .size) (c .before .before .args .edit) (c .before .before .args .key) (c .before .before .args .value) (omega (arith, c .before .if1 .left)) (omega (arith, c .if2 .taken)))
+returns-2 c =
+    let args = c .before .before .args in
+    sym (editable.key-long _ (args .edit) _ (args .value) (c .before .if1 .left) (c .if2 .taken))
 
 returns-3 : tie.Need-returns-3
-returns-3 c = sym (editable.value-long (c .before .before .before .args .size) (c .before .before .before .args .edit) (c .before .before .before .args .key) (c .before .before .before .args .value) (omega (arith, c .before .before .if1 .left)) (omega (arith, c .before .if2 .left)) (omega (arith, c .if3 .taken)))
+returns-3 c =
+    let args = c .before .before .before .args in
+    sym (editable.value-long _ (args .edit) _ _ (c .before .before .if1 .left) (c .before .if2 .left) (c .if3 .taken))
 
 enum-told : tie.Need-enum-told
 enum-told c = search needs
@@ -25,10 +30,22 @@ has-head-requires : tie.Need-has-head-requires
 has-head-requires c κs = search needs
 
 returns-4 : tie.Need-returns-4
-returns-4 c = sym (editable.by-place (c .before .before .before .before .before .args .size) (c .before .before .before .before .before .args .edit) (c .before .before .before .before .before .args .key) (c .before .before .before .before .before .args .value) (omega (arith, c .before .before .before .before .if1 .left)) (omega (arith, c .before .before .before .if2 .left)) (omega (arith, c .before .before .if3 .left)) ∙ editable.placed-canonical (c .before .before .before .before .before .args .size) (c .before .before .before .before .before .args .edit) (c .before .before .before .before .before .args .key) (c .before .before .before .before .before .args .value) (c .enum-told .given .1))
+returns-4 c =
+    let short = c .before .before in
+    let args = short .before .before .before .args in
+    sym
+    (editable.by-place _ (args .edit) _ _ (short .before .before .if1 .left) (short .before .if2 .left) (short .if3 .left)
+    ∙ editable.placed-canonical _ _ (args .key) (args .value) (c .enum-told .given .1))
 
 returns-5 : tie.Need-returns-5
-returns-5 c = c .has-head .ensures ∙ sym (editable.by-place (c .before .before .before .before .before .before .before .args .size) (c .before .before .before .before .before .before .before .args .edit) (c .before .before .before .before .before .before .before .args .key) (c .before .before .before .before .before .before .before .args .value) (omega (arith, c .before .before .before .before .before .before .if1 .left)) (omega (arith, c .before .before .before .before .before .if2 .left)) (omega (arith, c .before .before .before .before .if3 .left)) ∙ editable.placed-insert (c .before .before .before .before .before .before .before .args .size) (c .before .before .before .before .before .before .before .args .edit) (c .before .before .before .before .before .before .before .args .key) (c .before .before .before .before .before .before .before .args .value) (c .before .before .edit .given .1))
+returns-5 c =
+    let known = c .before .before in
+    let short = known .before .before in
+    let args = short .before .before .before .args in
+    c .has-head .ensures
+    ∙ sym
+    (editable.by-place _ (args .edit) _ _ (short .before .before .if1 .left) (short .before .if2 .left) (short .if3 .left)
+    ∙ editable.placed-insert _ _ (args .key) (args .value) (known .edit .given .1))
 
 pub can-write-spec : {M : Type 1} → statement M
 can-write-spec =

@@ -1,11 +1,21 @@
 -- `rewriting::write` meets its contract. Assumes nothing.
-use Rattle.rewriting.specs.Edited.{unfit}
-use mathlib.Core.Path.{refl, sym, _∙_}
+use Rattle.rewriting.specs.Edited.{writable, unfit}
+use mathlib.Core.Path.{_≡_, refl, sym, _∙_}
+use mathlib.Core.Bool.{true}
+use lib.ListN.{length}
 use borrow.Author.Tests.{not-true, not-false}
 use Rattle.rewriting.proofs.Editable as editable
 use borrow.Author.Needs.{needs}
 use Rattle.rewriting.proofs.write.Statement.{statement}
 use Rattle.rewriting.proofs.write.Tie as tie
+
+-- the edit is one that is written
+module _ (c : tie.Else1) where
+  abbrev start : tie.Start
+  start = c .before .before .before .before .before .before
+
+  fit : writable (length (start .args .source .now)) (start .args .edit) (length (start .args .key .now)) (length (start .args .value .now)) ≡ true
+  fit = sym (c .before .can-write .ensures) ∙ not-false _ (c .if1 .left)
 
 can-write-requires : tie.Need-can-write-requires
 can-write-requires c κs = search needs
@@ -17,25 +27,31 @@ enum-told : tie.Need-enum-told
 enum-told c = search needs
 
 rewrite-requires : tie.Need-rewrite-requires
-rewrite-requires c κs = editable.canonical-room (c .before .before .before .before .before .before .before .before .before .args .source .now) (c .before .before .before .before .before .before .before .before .before .args .edit) (c .before .before .before .before .before .before .before .before .before .args .key .now) (c .before .before .before .before .before .before .before .before .before .args .value .now) (sym (c .before .before .before .before .can-write .ensures) ∙ not-false _ (c .before .before .before .if1 .left))
+rewrite-requires c κs =
+    let args = start (c .before .before .before) .args in
+    editable.canonical-room _ (args .edit) (args .key .now) (args .value .now) (fit (c .before .before .before))
 
 enum-known-edit : tie.Need-enum-known-edit
 enum-known-edit c = search needs
 
 write-inserted-requires : tie.Need-write-inserted-requires
-write-inserted-requires c κs = editable.insert-room (c .before .before .before .before .before .before .before .before .before .before .args .source .now) (c .before .before .before .before .before .before .before .before .before .before .args .edit) (c .before .before .before .before .before .before .before .before .before .before .args .key .now) (c .before .before .before .before .before .before .before .before .before .before .args .value .now) (sym (c .before .before .before .before .before .can-write .ensures) ∙ not-false _ (c .before .before .before .before .if1 .left)) (c .before .before .edit .given .1)
+write-inserted-requires c κs = editable.insert-room _ _ _ _ (fit (c .before .before .before .before)) (c .before .before .edit .given .1)
 
 same-length : tie.Need-same-length
 same-length c = search needs
 
 returns-2 : tie.Need-returns-2
-returns-2 c = editable.puts-edited (c .before .before .before .before .before .before .before .before .before .before .before .before .args .source .now) (c .before .before .before .before .before .before .before .before .before .before .before .before .args .edit) (c .before .before .before .before .before .before .before .before .before .before .before .before .args .key .now) (c .before .before .before .before .before .before .before .before .before .before .before .before .args .value .now) (sym (c .before .before .before .before .before .before .before .can-write .ensures) ∙ not-false _ (c .before .before .before .before .before .before .if1 .left)) (editable.as-canonical _ _ _ (c .before .before .before .before .enum-told .given .1)) (c .before .before .rewrite .ensures)
+returns-2 c =
+    let told = c .before .before .before .before in
+    editable.puts-edited _ _ _ _ (fit (told .before .before)) (editable.as-canonical _ _ _ (told .enum-told .given .1)) (c .before .before .rewrite .ensures)
 
 same-length-2 : tie.Need-same-length-2
 same-length-2 c = search needs
 
 returns-3 : tie.Need-returns-3
-returns-3 c = editable.puts-edited (c .before .before .before .before .before .before .before .before .before .before .before .before .before .args .source .now) (c .before .before .before .before .before .before .before .before .before .before .before .before .before .args .edit) (c .before .before .before .before .before .before .before .before .before .before .before .before .before .args .key .now) (c .before .before .before .before .before .before .before .before .before .before .before .before .before .args .value .now) (sym (c .before .before .before .before .before .before .before .before .can-write .ensures) ∙ not-false _ (c .before .before .before .before .before .before .before .if1 .left)) (editable.as-insert _ _ _ (c .before .before .before .before .before .edit .given .1)) (c .before .before .write-inserted .ensures)
+returns-3 c =
+    let known = c .before .before .before .before .before in
+    editable.puts-edited _ _ _ _ (fit (known .before .before)) (editable.as-insert _ _ _ (known .edit .given .1)) (c .before .before .write-inserted .ensures)
 
 pub write-spec : {M : Type 1} → statement M
 write-spec =

@@ -1,8 +1,11 @@
 -- `placing::pass::pass` meets its contract. Assumes nothing.
 use Prim.Native.Nat.{_-_}
-use mathlib.Core.Path.{refl, sym, _∙_}
+use mathlib.Core.Path.{_≡_, refl, sym, _∙_}
+use mathlib.Core.Bool.{true}
 use lib.ListN.{length}
 use Rattle.scanner.proofs.Numbers.{found-of}
+use Rattle.bytes_at.specs.ByteAt.{byteAt}
+use Rattle.placing.specs.Passing.{goesOn}
 use Rattle.placing.proofs.Passes as passes
 use native.Mathlib.Omega.{arith}
 use borrow.Author.Needs.{needs}
@@ -14,6 +17,19 @@ Inv-loop source from nodes at₀ passed₀ opened₀ closed₀ at passed opened 
 
 abbrev μ-loop : tie.MeasureT-loop
 μ-loop source from nodes at₀ passed₀ opened₀ closed₀ at passed opened closed = length source - at
+
+-- the loop goes on, so a token stands ahead
+module _ (c : tie.Then1 Inv-loop μ-loop) where
+  abbrev looped : tie.At-loop Inv-loop μ-loop
+  looped = c .before .before
+
+  abbrev start : tie.Start Inv-loop μ-loop
+  start = looped .before .before
+
+  going : goesOn (byteAt (start .args .source .now) (looped .loop .at)) (start .args .nodes - looped .loop .passed) (looped .loop .opened)
+      (looped .loop .closed)
+      ≡ true
+  going = sym (c .before .goes-on .ensures) ∙ c .if1 .taken
 
 loop-holds : tie.Need-loop-holds Inv-loop μ-loop
 loop-holds c = passes.passing-none _ _ _ (c .before .pre)
@@ -34,10 +50,14 @@ enum-told : tie.Need-enum-told Inv-loop μ-loop
 enum-told c = search needs
 
 returns : tie.Need-returns Inv-loop μ-loop
-returns c = absurd (passes.fit-token (c .before .before .before .before .before .loop .inv) (sym (c .before .before .before .before .goes-on .ensures) ∙ c .before .before .before .if1 .taken) (c .before .before .before .before .before .before .before .pre) _ _ (c .before .before .token .ensures .scans) (c .enum-told .given .1))
+returns c =
+    let test = c .before .before .before in
+    absurd (passes.fit-token (looped test .loop .inv) (going test) (start test .pre) _ _ (c .before .before .token .ensures .scans) (c .enum-told .given .1))
 
 shared-slice-read-first : tie.Need-shared-slice-read-first Inv-loop μ-loop
-shared-slice-read-first c = passes.at-token (c .before .before .before .before .before .before .before .loop .inv) (sym (c .before .before .before .before .before .before .goes-on .ensures) ∙ c .before .before .before .before .before .if1 .taken) (c .before .before .before .before .before .before .before .before .before .pre)
+shared-slice-read-first c =
+    let test = c .before .before .before .before .before in
+    passes.at-token (looped test .loop .inv) (going test) (start test .pre)
 
 closes-requires : tie.Need-closes-requires Inv-loop μ-loop
 closes-requires c κs = search needs
@@ -46,22 +66,36 @@ sub-passed : tie.Need-sub-passed Inv-loop μ-loop
 sub-passed c = c .closes .ensures .1
 
 add-passed : tie.Need-add-passed Inv-loop μ-loop
-add-passed c = omega (arith, (c .before .before .before .before .before .before .before .before .loop .inv) .fewer, (c .before .before .before .before .before .before .before .before .loop .inv) .fewer-opened, (c .before .before .before .before .before .before .before .before .loop .inv) .fewer-closed, (c .before .before .before .before .before .before .before .before .loop .inv) .inside, passes.at-token (c .before .before .before .before .before .before .before .before .loop .inv) (sym (c .before .before .before .before .before .before .before .goes-on .ensures) ∙ c .before .before .before .before .before .before .if1 .taken) (c .before .before .before .before .before .before .before .before .before .before .pre))
+add-passed c =
+    let inv = c .before .before .before .before .before .before .before .before .loop .inv in
+    omega (arith, inv .fewer, inv .inside, shared-slice-read-first (c .before))
 
 opens-requires : tie.Need-opens-requires Inv-loop μ-loop
 opens-requires c κs = search needs
 
 add-opened : tie.Need-add-opened Inv-loop μ-loop
-add-opened c = omega (arith, c .opens .ensures .1, (c .before .before .before .before .before .before .before .before .before .loop .inv) .fewer-opened, passes.at-token (c .before .before .before .before .before .before .before .before .before .loop .inv) (sym (c .before .before .before .before .before .before .before .before .goes-on .ensures) ∙ c .before .before .before .before .before .before .before .if1 .taken) (c .before .before .before .before .before .before .before .before .before .before .before .pre))
+add-opened c =
+    let inv = c .before .before .before .before .before .before .before .before .before .loop .inv in
+    omega (arith, c .opens .ensures .1, inv .fewer-opened, shared-slice-read-first (c .before .before))
 
 add-closed : tie.Need-add-closed Inv-loop μ-loop
-add-closed c = omega (arith, c .before .closes .ensures .1, (c .before .before .before .before .before .before .before .before .before .loop .inv) .fewer-closed, passes.at-token (c .before .before .before .before .before .before .before .before .before .loop .inv) (sym (c .before .before .before .before .before .before .before .before .goes-on .ensures) ∙ c .before .before .before .before .before .before .before .if1 .taken) (c .before .before .before .before .before .before .before .before .before .before .before .pre))
+add-closed c =
+    let inv = c .before .before .before .before .before .before .before .before .before .loop .inv in
+    omega (arith, c .before .closes .ensures .1, inv .fewer-closed, shared-slice-read-first (c .before .before))
 
 loop-less : tie.Need-loop-less Inv-loop μ-loop
-loop-less c = omega (arith, (found-of (c .before .before .before .before .before .before .token .ensures .scans) (c .before .before .before .before .scan .given .1)) .on, (found-of (c .before .before .before .before .before .before .token .ensures .scans) (c .before .before .before .before .scan .given .1)) .inside)
+loop-less c =
+    let scanned = c .before .before .before .before in
+    let text = found-of (scanned .before .before .token .ensures .scans) (scanned .scan .given .1) in
+    omega (arith, text .on, text .inside)
 
 loop-again : tie.Need-loop-again Inv-loop μ-loop
-loop-again c = passes.passing-more (c .before .before .before .before .before .before .before .before .before .loop .inv) (sym (c .before .before .before .before .before .before .before .before .goes-on .ensures) ∙ c .before .before .before .before .before .before .before .if1 .taken) _ (found-of (c .before .before .before .before .before .before .token .ensures .scans) (c .before .before .before .before .scan .given .1)) _ _ (c .before .closes .ensures .0) (c .opens .ensures .0) (c .before .closes .ensures .1) (c .opens .ensures .1)
+loop-again c =
+    let closed = c .before in
+    let scanned = closed .before .before .before in
+    let test = scanned .before .before .before in
+    passes.passing-more (looped test .loop .inv) (going test) _ (found-of (scanned .before .before .token .ensures .scans) (scanned .scan .given .1)) _ _
+    (closed .closes .ensures .0) (c .opens .ensures .0) (closed .closes .ensures .1) (c .opens .ensures .1)
 
 sub-t16 : tie.Need-sub-t16 Inv-loop μ-loop
 sub-t16 c = passes.closed-most (c .before .before .loop .inv) (sym (c .before .goes-on .ensures) ∙ c .if1 .left) (c .before .before .before .before .pre)

@@ -8,10 +8,16 @@ behind-head-requires : tie.Need-behind-head-requires
 behind-head-requires c κs = c .before .pre .head
 
 pass-requires : tie.Need-pass-requires
-pass-requires c κs = c .before .before .pre .pairs _ ((c .behind-head .ensures (c .before .before .pre .head)) .here) ((c .behind-head .ensures (c .before .before .pre .head)) .inside)
+pass-requires c κs =
+    let start = c .before .before in
+    let behind = c .behind-head .ensures (start .pre .head) in
+    start .pre .pairs _ (behind .here) (behind .inside)
 
 returns : tie.Need-returns
-returns c = λ a. let b = c .before .behind-head .ensures (a .head) in record { tag = refl; first = b; gap = gaps.behind-gap (c .pass .ensures (a .pairs _ (b .here) (b .inside))) (a .same _ (b .here) (b .inside)); counted = refl; taken = refl }
+returns c = λ a.
+    let behind = c .before .behind-head .ensures (a .head) in
+    let gap = gaps.behind-gap (c .pass .ensures (a .pairs _ (behind .here) (behind .inside))) (a .same _ (behind .here) (behind .inside)) in
+    record { tag = refl; first = behind; gap = gap; counted = refl; taken = refl }
 
 pub find-gap-spec : {M : Type 1} → statement M
 find-gap-spec = tie.close (tie.spec behind-head-requires pass-requires returns)

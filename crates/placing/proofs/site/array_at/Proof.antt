@@ -19,7 +19,9 @@ shared-slice-read-if2 : tie.Need-shared-slice-read-if2
 shared-slice-read-if2 c = search needs
 
 returns-2 : tie.Need-returns-2
-returns-2 c = λ h e. c .if2 .taken (words.word-first (c .before .before .before .args .table .now) (c .before .before .before .args .node) ∙ e)
+returns-2 c = λ h e.
+    let args = c .before .before .before .args in
+    c .if2 .taken (words.word-first (args .table .now) (args .node) ∙ e)
 
 add-t6 : tie.Need-add-t6
 add-t6 c = search needs
@@ -40,7 +42,14 @@ shared-slice-read-t14 : tie.Need-shared-slice-read-t14
 shared-slice-read-t14 c = search needs
 
 returns-3 : tie.Need-returns-3
-returns-3 c = record { inside = omega (arith, c .before .before .before .before .if1 .left); tagged = sym (words.word-first (c .before .before .before .before .before .args .table .now) (c .before .before .before .before .before .args .node)) ∙ c .before .before .if2 .left; counted = refl; numbered = refl }
+returns-3 c =
+    let args = c .before .before .before .before .before .args in
+    record {
+      inside = omega (arith, c .before .before .before .before .if1 .left);
+      tagged = sym (words.word-first (args .table .now) (args .node)) ∙ c .before .before .if2 .left;
+      counted = refl;
+      numbered = refl;
+    }
 
 pub array-at-spec : {M : Type 1} → statement M
 array-at-spec =

@@ -42,10 +42,19 @@ loop-less : tie.Need-loop-less Inv-loop μ-loop
 loop-less c = omega arith
 
 loop-again : tie.Need-loop-again Inv-loop μ-loop
-loop-again c = ⊎-elim (λ w. (omega arith, w .1 ∙ words.carries (c .before .before .before .before .args .table .now) (c .before .before .before .before .args .first) (c .before .before .before .loop .i) (c .before .before .before .loop .taken) (c .before .before .before .loop .inv .1) (w .0 .taken), omega (arith, w .1))) (λ w. (omega arith, w .1 ∙ words.carries-none (c .before .before .before .before .args .table .now) (c .before .before .before .before .args .first) (c .before .before .before .loop .i) (c .before .before .before .loop .taken) (c .before .before .before .loop .inv .1) (w .0 .left), omega (arith, w .1))) (c .if1 .came)
+loop-again c =
+    let at = c .before .before .before .loop in
+    let args = c .before .before .before .before .args in
+    ⊎-elim
+    (λ w. (omega arith, w .1 ∙ words.carries (args .table .now) (args .first) (at .i) (at .taken) (at .inv .1) (w .0 .taken), omega (arith, w .1)))
+    (λ w. (omega arith, w .1 ∙ words.carries-none (args .table .now) (args .first) (at .i) (at .taken) (at .inv .1) (w .0 .left), omega (arith, w .1)))
+    (c .if1 .came)
 
 returns : tie.Need-returns Inv-loop μ-loop
-returns c = let e : c .before .loop .i ≡ c .before .before .args .count = omega (arith, c .before .loop .inv .0, c .loop-test .left) in (c .before .loop .inv .1 ∙ ap (carriers (c .before .before .args .table .now) (c .before .before .args .first)) e, omega (arith, c .before .loop .inv .2))
+returns c =
+    let at = c .before .loop in
+    let all : at .i ≡ c .before .before .args .count = omega (arith, at .inv .0, c .loop-test .left) in
+    (at .inv .1 ∙ ap (carriers _ _) all, omega (arith, at .inv .2))
 
 pub carried-spec : {M : Type 1} → statement M
 carried-spec =

@@ -1,7 +1,7 @@
 -- `placing::site::gap_at` meets its contract. Assumes nothing.
 use native.Mathlib.Omega.{arith}
 use mathlib.Core.Path.{ap}
-use Prim.Native.Nat.{_+_, _-_}
+use Prim.Native.Nat.{_+_}
 use Rattle.placing.proofs.site.gap_at.Statement.{statement}
 use Rattle.placing.proofs.site.gap_at.Tie as tie
 
@@ -15,19 +15,30 @@ pair-node-requires : tie.Need-pair-node-requires
 pair-node-requires c κs = (c .before .before .pre .walked (c .if1 .left)) .walk
 
 sub-carried : tie.Need-sub-carried
-sub-carried c = omega (arith, (c .before .before .before .pre .walked (c .before .if1 .left)) .on, c .pair-node .ensures)
+sub-carried c =
+    let walked = c .before .before .before .pre .walked (c .before .if1 .left) in
+    omega (arith, walked .on, c .pair-node .ensures)
 
 carried-requires : tie.Need-carried-requires
-carried-requires c κs = omega (arith, (c .before .before .before .pre .walked (c .before .if1 .left)) .on, (c .before .before .before .pre .walked (c .before .if1 .left)) .inside, c .pair-node .ensures)
-
-add-t12 : tie.Need-add-t12
-add-t12 c = omega (arith, c .before .before .before .before .pre .low, c .before .before .before .before .pre .inside, (c .before .before .before .before .pre .walked (c .before .before .if1 .left)) .on, (c .before .before .before .before .pre .walked (c .before .before .if1 .left)) .inside, c .before .pair-node .ensures, c .carried .ensures .1)
+carried-requires c κs =
+    let walked = c .before .before .before .pre .walked (c .before .if1 .left) in
+    omega (arith, walked .on, walked .inside, c .pair-node .ensures)
 
 add-t13 : tie.Need-add-t13
-add-t13 c = omega (arith, c .before .before .before .before .pre .low, c .before .before .before .before .pre .inside, (c .before .before .before .before .pre .walked (c .before .before .if1 .left)) .on, (c .before .before .before .before .pre .walked (c .before .before .if1 .left)) .inside, c .before .pair-node .ensures, c .carried .ensures .1)
+add-t13 c =
+    let start = c .before .before .before .before in
+    let walked = start .pre .walked (c .before .before .if1 .left) in
+    omega (arith, start .pre .low, start .pre .inside, walked .on, walked .inside, c .before .pair-node .ensures, c .carried .ensures .1)
+
+add-t12 : tie.Need-add-t12
+add-t12 c = omega (arith, add-t13 c)
 
 returns-2 : tie.Need-returns-2
-returns-2 c = record { within = c .before .before .if1 .left; behind = c .before .pair-node .ensures; next = ap (λ (n : _). c .before .before .before .before .args .ordinal + n + 1) (c .carried .ensures .0) }
+returns-2 c = record {
+  within = c .before .before .if1 .left;
+  behind = c .before .pair-node .ensures;
+  next = ap (λ (n : _). c .before .before .before .before .args .ordinal + n + 1) (c .carried .ensures .0);
+}
 
 pub gap-at-spec : {M : Type 1} → statement M
 gap-at-spec =

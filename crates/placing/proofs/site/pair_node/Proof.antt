@@ -26,7 +26,9 @@ mul-node-2 : tie.Need-mul-node-2 Inv-loop μ-loop
 mul-node-2 c = omega (arith, c .before .before .pre (c .before .loop .q) (c .loop-test .taken), c .before .loop .inv .1)
 
 shared-slice-read-node : tie.Need-shared-slice-read-node Inv-loop μ-loop
-shared-slice-read-node c = omega (arith, c .before .before .before .pre (c .before .before .loop .q) (c .before .loop-test .taken), c .before .before .loop .inv .1)
+shared-slice-read-node c =
+    let at = c .before .before .loop in
+    omega (arith, c .before .before .before .pre (at .q) (c .before .loop-test .taken), at .inv .1)
 
 add-q : tie.Need-add-q Inv-loop μ-loop
 add-q c = omega arith
@@ -35,10 +37,16 @@ loop-less : tie.Need-loop-less Inv-loop μ-loop
 loop-less c = omega arith
 
 loop-again : tie.Need-loop-again Inv-loop μ-loop
-loop-again c = (omega arith, words.pair-next (c .before .before .before .args .table .now) (c .before .before .before .args .first) (c .before .before .loop .q) (c .before .before .loop .node) (c .before .before .loop .inv .1))
+loop-again c =
+    let at = c .before .before .loop in
+    let args = c .before .before .before .args in
+    (omega arith, words.pair-next (args .table .now) (args .first) (at .q) (at .node) (at .inv .1))
 
 returns : tie.Need-returns Inv-loop μ-loop
-returns c = let e : c .before .loop .q ≡ c .before .before .args .place = omega (arith, c .before .loop .inv .0, c .loop-test .left) in c .before .loop .inv .1 ∙ ap (pairNode (c .before .before .args .table .now) (c .before .before .args .first)) e
+returns c =
+    let at = c .before .loop in
+    let all : at .q ≡ c .before .before .args .place = omega (arith, at .inv .0, c .loop-test .left) in
+    at .inv .1 ∙ ap (pairNode _ _) all
 
 pub pair-node-spec : {M : Type 1} → statement M
 pair-node-spec =

@@ -7,7 +7,7 @@ use Rattle.placing.proofs.texts.exact.Statement.{statement}
 use Rattle.placing.proofs.texts.exact.Tie as tie
 
 returns : tie.Need-returns
-returns c = laws.none-empty (c .before .before .args .text .now) (c .if1 .taken)
+returns c = laws.none-empty _ (c .if1 .taken)
 
 shared-slice-read-scalar : tie.Need-shared-slice-read-scalar
 shared-slice-read-scalar c = laws.some (c .before .before .before .args .text .now) (c .before .if1 .left)
@@ -22,13 +22,21 @@ enum-told : tie.Need-enum-told
 enum-told c = search needs
 
 returns-2 : tie.Need-returns-2
-returns-2 c = subst (Exact (c .before .before .before .before .before .before .args .text .now)) (sym (c .enum-told .given .1)) (laws.none-unfit (c .before .before .before .before .before .before .args .text .now) (c .before .before .before .before .if1 .left) (c .before .before .scalar .ensures .scans) (c .enum-told .given .1))
+returns-2 c =
+    let unfit = c .enum-told .given .1 in
+    subst (Exact _) (sym unfit) (laws.none-unfit _ (c .before .before .before .before .if1 .left) (c .before .before .scalar .ensures .scans) unfit)
 
 returns-3 : tie.Need-returns-3
-returns-3 c = laws.none-longer (c .before .before .before .before .before .before .before .before .before .args .text .now) (c .before .before .before .before .before .before .before .if1 .left) (c .before .before .before .before .before .scalar .ensures .scans) (c .before .before .before .scan .given .1) (c .if2 .taken)
+returns-3 c =
+    let scanned = c .before .before .before in
+    laws.none-longer _ (scanned .before .before .before .before .if1 .left) (scanned .before .before .scalar .ensures .scans) (scanned .scan .given .1)
+    (c .if2 .taken)
 
 returns-4 : tie.Need-returns-4
-returns-4 c = laws.is-scalar (c .before .before .before .before .before .before .before .before .before .args .text .now) (c .before .before .before .before .before .before .before .if1 .left) (c .before .before .before .before .before .scalar .ensures .scans) (c .before .before .before .scan .given .1) (c .if2 .left)
+returns-4 c =
+    let scanned = c .before .before .before in
+    laws.is-scalar _ (scanned .before .before .before .before .if1 .left) (scanned .before .before .scalar .ensures .scans) (scanned .scan .given .1)
+    (c .if2 .left)
 
 pub exact-spec : {M : Type 1} → statement M
 exact-spec =

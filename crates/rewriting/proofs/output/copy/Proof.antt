@@ -45,7 +45,9 @@ loop-again : tie.Need-loop-again Inv-loop μ-loop
 loop-again c = outputs.copied-more _ _ _ _ _ _ _ _ (c .before .before .before .before .before .before .pre .1) (c .before .before .loop .inv) (omega arith) refl
 
 add-result : tie.Need-add-result Inv-loop μ-loop
-add-result c = omega (arith, c .before .before .before .before .before .pre .2 .low, length-slice (c .before .before .before .before .before .args .from) (c .before .before .before .before .before .args .to) (c .before .before .before .before .before .args .source .now) (c .before .before .before .before .before .pre .1))
+add-result c =
+    let start = c .before .before .before .before .before in
+    omega (arith, start .pre .2 .low, length-slice (start .args .from) (start .args .to) (start .args .source .now) (start .pre .1))
 
 same-length : tie.Need-same-length Inv-loop μ-loop
 same-length c = c .before .loop .inv .same

@@ -39,7 +39,8 @@ returns-3 : tie.Need-returns-3
 returns-3 c = λ h.
     let ran = c .before .before .before in
     let colon = ran .before in
-    plain.plain-float _ _ (colon .before .before .before .pre) (sym (colon .before .byte-is .ensures) ∙ not-false _ (colon .if1 .left)) (plain-whole _ _ _ (ran .run-at .ensures) (c .before .before .if2 .left) (sym (c .before .byte-is2 .ensures) ∙ c .if3 .taken))
+    plain.plain-float _ _ (colon .before .before .before .pre) (sym (colon .before .byte-is .ensures) ∙ not-false _ (colon .if1 .left))
+    (plain-whole _ _ _ (ran .run-at .ensures) (c .before .before .if2 .left) (sym (c .before .byte-is2 .ensures) ∙ c .if3 .taken))
 
 byte-is-requires-3 : tie.Need-byte-is-requires-3
 byte-is-requires-3 c κs = search needs
@@ -65,7 +66,9 @@ returns-5 c = λ h.
     let ran = pointed .before .before .before .before .before in
     let colon = ran .before in
     plain.plain-float _ _ (colon .before .before .before .pre) (sym (colon .before .byte-is .ensures) ∙ not-false _ (colon .if1 .left))
-    (plain-part _ _ _ (ran .run-at .ensures) (pointed .before .before .before .before .if2 .left) (sym (pointed .before .byte-is3 .ensures) ∙ not-false _ (pointed .if4 .left)) _ (c .before .before .run-at2 .ensures) (sym (c .before .byte-is4 .ensures) ∙ c .if5 .taken))
+    (plain-part _ _ _ (ran .run-at .ensures) (pointed .before .before .before .before .if2 .left)
+    (sym (pointed .before .byte-is3 .ensures) ∙ not-false _ (pointed .if4 .left)) _ (c .before .before .run-at2 .ensures)
+    (sym (c .before .byte-is4 .ensures) ∙ c .if5 .taken))
 
 returns-6 : tie.Need-returns-6
 returns-6 c = λ h. absurd (omega (arith, h))

@@ -1,14 +1,24 @@
 -- `rewriting::plain::behind_int` meets its contract. Assumes nothing.
+use Prim.Native.Nat.{_+_, _≤_}
 use native.Mathlib.Omega.{arith}
 use mathlib.Core.Path.{sym, _∙_}
 use borrow.Author.Needs.{needs}
 use borrow.Author.Tests.{not-false}
 use lib.Dec.{lit<}
+use lib.ListN.{length}
 use Rattle.format.specs.Bytes.{byte}
 use Rattle.bytes_at.proofs.BytesAt.{byte-there}
 use Rattle.rewriting.proofs.PlainTokens as plain
 use Rattle.rewriting.proofs.plain.behind_int.Statement.{statement}
 use Rattle.rewriting.proofs.plain.behind_int.Tie as tie
+
+-- the semicolon stands behind a digit at the least
+four : (stopped : tie.Else4)
+    → let start = stopped .before .before .before .before .before .before .before .before in
+    start .args .at + 4 ≤ length (start .args .source .now)
+four stopped =
+    let semicolon = sym (stopped .before .byte-is2 .ensures) ∙ not-false _ (stopped .if4 .left) in
+    omega (arith, stopped .before .before .before .if2 .left, byte-there _ _ (byte ";") (lit< tt) semicolon)
 
 add-byte-is : tie.Need-add-byte-is
 add-byte-is c = omega (arith, c .before .pre .inside)
@@ -41,22 +51,16 @@ returns-4 : tie.Need-returns-4
 returns-4 c = λ h. absurd (omega (arith, h))
 
 add-is-shortest : tie.Need-add-is-shortest
-add-is-shortest stopped = omega (arith, stopped .before .before .before .if2 .left, byte-there _ _ (byte ";") (lit< tt) (sym (stopped .before .byte-is2 .ensures) ∙ not-false _ (stopped .if4 .left)))
+add-is-shortest c = omega (arith, four c)
 
 shared-slice-read-is-shortest : tie.Need-shared-slice-read-is-shortest
-shared-slice-read-is-shortest c =
-    let stopped = c .before in
-    omega (arith, stopped .before .before .before .if2 .left, byte-there _ _ (byte ";") (lit< tt) (sym (stopped .before .byte-is2 .ensures) ∙ not-false _ (stopped .if4 .left)))
+shared-slice-read-is-shortest c = omega (arith, four (c .before))
 
 add-is-shortest-2 : tie.Need-add-is-shortest-2
-add-is-shortest-2 c =
-    let stopped = c .before in
-    omega (arith, stopped .before .before .before .if2 .left, byte-there _ _ (byte ";") (lit< tt) (sym (stopped .before .byte-is2 .ensures) ∙ not-false _ (stopped .if4 .left)))
+add-is-shortest-2 c = omega (arith, four (c .before))
 
 shared-slice-read-is-shortest-2 : tie.Need-shared-slice-read-is-shortest-2
-shared-slice-read-is-shortest-2 c =
-    let stopped = c .before .before in
-    omega (arith, stopped .before .before .before .if2 .left, byte-there _ _ (byte ";") (lit< tt) (sym (stopped .before .byte-is2 .ensures) ∙ not-false _ (stopped .if4 .left)))
+shared-slice-read-is-shortest-2 c = omega (arith, four (c .before .before))
 
 is-shortest-requires : tie.Need-is-shortest-requires
 is-shortest-requires c κs = search needs
@@ -74,7 +78,8 @@ returns-6 c = λ h.
     let stopped = c .before .before .before .before in
     let ran = stopped .before .before .before .before in
     let colon = ran .before in
-    plain.plain-int _ _ (colon .before .before .before .pre) (sym (colon .before .byte-is .ensures) ∙ not-false _ (colon .if1 .left)) _ (ran .run-at .ensures) (omega (arith, stopped .before .before .before .if2 .left)) (omega (arith, stopped .before .before .if3 .left))
+    plain.plain-int _ _ (colon .before .before .before .pre) (sym (colon .before .byte-is .ensures) ∙ not-false _ (colon .if1 .left)) _ (ran .run-at .ensures)
+    (omega (arith, stopped .before .before .before .if2 .left)) (omega (arith, stopped .before .before .if3 .left))
     (sym (stopped .before .byte-is2 .ensures) ∙ not-false _ (stopped .if4 .left)) (c .before .is-shortest .ensures (not-false _ (c .if5 .left)))
 
 pub behind-int-spec : {M : Type 1} → statement M

@@ -13,7 +13,8 @@ returns-2 c =
     let told = c .before .before .before .before .before in
     let pre = told .before .before .before .before .pre in
     let changes = pre .2 .raises _ (told .enum-told2 .given .1) in
-    puts-as (spelled.as-raised _ _ _ (told .enum-told2 .given .1) ∙ spelled.raised-high _ _ _ _ (changes .0) (changes .1)) (c .before .before .numbered .ensures)
+    puts-as (spelled.as-raised _ _ _ (told .enum-told2 .given .1) ∙ spelled.raised-high _ _ _ _ (changes .0) (changes .1))
+    (c .before .before .numbered .ensures)
 
 enum-told : tie.Need-enum-told
 enum-told c = search needs

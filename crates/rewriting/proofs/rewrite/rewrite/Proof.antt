@@ -20,7 +20,8 @@ loop-again c =
     let copied = c .before .before .before .before .before .before in
     let found = c .before .before .before .before .before .before .before .before .before .before .before in
     let stop = rewritten.halted-of (found .stretch .ensures) (c .before .before .before .before .before .before .before .before .before .at2 .given .1) in
-    rewritten.rewriting-more (found .before .loop .inv) (stop .0) (copied .copy2 .ensures) (copied .copy2 .kept .1 .1 .1 .0) (stop .1) (spelled .respell .ensures) (spelled .respell .kept .1 .1 .1 .1 .0)
+    rewritten.rewriting-more (found .before .loop .inv) (stop .0) (copied .copy2 .ensures) (copied .copy2 .kept .1 .1 .1 .0) (stop .1)
+    (spelled .respell .ensures) (spelled .respell .kept .1 .1 .1 .1 .0)
 
 returns-2 : tie.Need-returns-2 Inv-loop μ-loop
 returns-2 c =
@@ -63,7 +64,8 @@ respell-requires c κs =
     let copied = c .before .before .before in
     let found = c .before .before .before .before .before .before .before .before in
     let stop = rewritten.halted-of (found .stretch .ensures) (c .before .before .before .before .before .before .at2 .given .1) in
-    rewritten.token-bounds (found .before .loop .inv) (stop .0) (copied .copy2 .ensures) (copied .copy2 .kept .1 .1 .1 .0) (stop .1) (found .before .before .before .before .before .pre)
+    rewritten.token-bounds (found .before .loop .inv) (stop .0) (copied .copy2 .ensures) (copied .copy2 .kept .1 .1 .1 .0) (stop .1)
+    (found .before .before .before .before .before .pre)
 
 loop-less : tie.Need-loop-less Inv-loop μ-loop
 loop-less c =

@@ -9,37 +9,76 @@ use Rattle.rewriting.proofs.shortest.shortest.Tie as tie
 
 -- all other tags first: a tag that is matched no more falls to them, and this says why that is wrong
 returns-6 : tie.Need-returns-6
-returns-6 c = puts-as (spelled.copied-text _ _ _ (c .before .before .before .before .match .rest .0 .0 .0 .0 .1) (c .before .before .before .before .match .rest .0 .0 .0 .1) (c .before .before .before .before .match .rest .0 .0 .1) (c .before .before .before .before .match .rest .0 .1) (c .before .before .before .before .match .rest .1)) (c .before .before .copy .ensures)
+returns-6 c =
+    let others = c .before .before .before .before .match .rest in
+    puts-as (spelled.copied-text _ _ _ (others .0 .0 .0 .0 .1) (others .0 .0 .0 .1) (others .0 .0 .1) (others .0 .1) (others .1))
+    (c .before .before .copy .ensures)
 
 shared-slice-read-tag : tie.Need-shared-slice-read-tag
 shared-slice-read-tag c = omega (arith, c .before .before .before .pre .0 .on, c .before .before .before .pre .0 .inside)
 
 signed-requires : tie.Need-signed-requires
-signed-requires c κs = (c .before .before .before .before .before .pre .0 .int (c .before .match .keys1), c .before .before .before .before .before .pre .0 .inside, within-as (spelled.int-text _ _ _ (c .before .match .keys1)) (c .before .before .before .before .before .pre .1))
+signed-requires c κs =
+    let pre = c .before .before .before .before .before .pre in
+    (pre .0 .int (c .before .match .keys1), pre .0 .inside, within-as (spelled.int-text _ _ _ (c .before .match .keys1)) (pre .1))
 
 sub-numbered : tie.Need-sub-numbered
-sub-numbered c = omega (arith, c .before .before .before .before .pre .0 .string (c .match .keys2) .from, c .before .before .before .before .pre .0 .string (c .match .keys2) .to)
+sub-numbered c =
+    let quoted = c .before .before .before .before .pre .0 .string (c .match .keys2) in
+    omega (arith, quoted .from)
 
 numbered-requires : tie.Need-numbered-requires
-numbered-requires c κs = (omega (arith, c .before .before .before .before .before .pre .0 .inside, c .before .before .before .before .before .pre .0 .more (λ e. omega (arith, e, c .before .match .keys2))), omega (arith, c .before .before .before .before .before .pre .0 .string (c .before .match .keys2) .from, c .before .before .before .before .before .pre .0 .string (c .before .match .keys2) .to), c .before .before .before .before .before .pre .0 .inside, within-as (spelled.string-text _ _ _ (c .before .match .keys2)) (c .before .before .before .before .before .pre .1))
+numbered-requires c κs =
+    let pre = c .before .before .before .before .before .pre in
+    let is-string = c .before .match .keys2 in
+    let quoted = pre .0 .string is-string in (
+      omega (arith, pre .0 .inside, quoted .from, quoted .to),
+      omega (arith, quoted .to),
+      pre .0 .inside,
+      within-as (spelled.string-text _ _ _ is-string) (pre .1),
+    )
 
 sub-numbered-2 : tie.Need-sub-numbered-2
-sub-numbered-2 c = omega (arith, c .before .before .before .before .pre .0 .inside, c .before .before .before .before .pre .0 .more (λ e. omega (arith, e, c .match .keys3)))
+sub-numbered-2 c =
+    let bounds = c .before .before .before .before .pre .0 in
+    omega (arith, bounds .more (λ e. omega (arith, e, c .match .keys3)))
 
 numbered-requires-2 : tie.Need-numbered-requires-2
-numbered-requires-2 c κs = (omega (arith, c .before .before .before .before .before .pre .0 .inside, c .before .before .before .before .before .pre .0 .more (λ e. omega (arith, e, c .before .match .keys3))), omega arith, c .before .before .before .before .before .pre .0 .inside, within-as (spelled.array-text _ _ _ (c .before .match .keys3)) (c .before .before .before .before .before .pre .1))
+numbered-requires-2 c κs =
+    let pre = c .before .before .before .before .before .pre in
+    let is-array = c .before .match .keys3 in (
+      omega (arith, pre .0 .inside, pre .0 .more (λ e. omega (arith, e, is-array))),
+      omega arith,
+      pre .0 .inside,
+      within-as (spelled.array-text _ _ _ is-array) (pre .1),
+    )
 
 object-head-requires : tie.Need-object-head-requires
-object-head-requires c κs = (c .before .before .before .before .before .pre .0, c .before .before .before .before .before .pre .0 .object (c .before .match .keys4), within-as (spelled.object-text _ _ _ (c .before .match .keys4)) (c .before .before .before .before .before .pre .1))
+object-head-requires c κs =
+    let pre = c .before .before .before .before .before .pre in
+    (pre .0, pre .0 .object (c .before .match .keys4), within-as (spelled.object-text _ _ _ (c .before .match .keys4)) (pre .1))
 
 sub-numbered-3 : tie.Need-sub-numbered-3
 sub-numbered-3 c = omega (arith, c .before .before .before .before .pre .0 .on)
 
 numbered-requires-3 : tie.Need-numbered-requires-3
-numbered-requires-3 c κs = (omega (arith, c .before .before .before .before .before .pre .0 .inside, more-of (c .before .before .before .before .before .pre .0) (c .before .match .keys5)), omega arith, c .before .before .before .before .before .pre .0 .inside, within-as (spelled.reference-text _ _ _ (c .before .match .keys5)) (c .before .before .before .before .before .pre .1))
+numbered-requires-3 c κs =
+    let pre = c .before .before .before .before .before .pre in
+    let refers = c .before .match .keys5 in (
+      omega (arith, pre .0 .inside, more-of (pre .0) refers),
+      omega arith,
+      pre .0 .inside,
+      within-as (spelled.reference-text _ _ _ refers) (pre .1),
+    )
 
 copy-requires : tie.Need-copy-requires
-copy-requires c κs = (omega (arith, c .before .before .before .before .before .pre .0 .on), c .before .before .before .before .before .pre .0 .inside, within-as (spelled.copied-text _ _ _ (c .before .match .rest .0 .0 .0 .0 .1) (c .before .match .rest .0 .0 .0 .1) (c .before .match .rest .0 .0 .1) (c .before .match .rest .0 .1) (c .before .match .rest .1)) (c .before .before .before .before .before .pre .1))
+copy-requires c κs =
+    let pre = c .before .before .before .before .before .pre in
+    let others = c .before .match .rest in (
+      omega (arith, pre .0 .on),
+      pre .0 .inside,
+      within-as (spelled.copied-text _ _ _ (others .0 .0 .0 .0 .1) (others .0 .0 .0 .1) (others .0 .0 .1) (others .0 .1) (others .1)) (pre .1),
+    )
 
 same-length : tie.Need-same-length
 same-length c = search needs
