@@ -5,6 +5,7 @@ use Prim.Native.Nat.{ℕ, _+_, _*_}
 use mathlib.Core.Path.{sym, ap}
 use lib.ListN.{getD}
 use Rattle.format.specs.Kind.{tag}
+use Rattle.format.specs.Table.{width}
 use Rattle.reader.proofs.seen.key_at.Statement.{statement}
 use Rattle.reader.proofs.seen.key_at.Tie as tie
 
@@ -39,7 +40,7 @@ returns : tie.Need-returns
 returns c =
     let args = c .before .before .before .args in
     let t = args .table .now in
-    let k = args .node * 6 in
+    let k = args .node * width in
     ap (λ (i : ℕ). record { tag = getD t i 0; content = getD t (k + 2) 0; size = getD t (k + 3) 0 }) (sym (add-zero k))
 
 pub key-at-spec : {M : Type 1} → statement M
