@@ -36,8 +36,10 @@ use Rattle.reader.proofs.Leaves.{refused-is, meets-bad}
 abbrev pub within : Cursor → (next : ℕ) → Cursor
 within c next = record { at = next; node = c .node + 1; ordinal = c .ordinal + 1; levels = c .levels - 1 }
 
-pub first-fit : (s t t₁ : List ℕ) (capacity : ℕ) (c inside : Cursor) (next : ℕ) → inside ≡ within c next → next ≤ length s → Fit s t capacity c → c .node < capacity → length t₁ ≡ length t → Fit s t₁ capacity inside
-first-fit s t t₁ capacity c inside next e h f room l = subst (Fit s t₁ capacity) (sym e) (record { inside = h; table = omega arith; node = omega arith; ordinal = omega arith })
+pub first-fit : (s t t₁ : List ℕ) (capacity : ℕ) (c inside : Cursor) (next : ℕ) → inside ≡ within c next → next ≤ length s → Fit s t capacity c
+    → c .node < capacity → length t₁ ≡ length t → Fit s t₁ capacity inside
+first-fit s t t₁ capacity c inside next e h f room l =
+    subst (Fit s t₁ capacity) (sym e) (record { inside = h; table = omega arith; node = omega arith; ordinal = omega arith })
 
 module _ (s : List ℕ) (capacity : ℕ) (c : Cursor) (b : ℕ) (is : containerTag b) where
   abbrev inner : Inner
@@ -50,7 +52,8 @@ module _ (s : List ℕ) (capacity : ℕ) (c : Cursor) (b : ℕ) (is : containerT
   unfolding bodyAt
   opened = body-head (setting capacity s) inner (c .at) (c .ordinal) (c .node) b (drop (c .at + 1) s) is
 
-  pub head-not : (t t′ : List ℕ) (scan : Scan) (code : ℕ) (r : Step) → Scans (headText (isArrayTag b)) (headTold (c .at + 1)) s (c .at + 1) scan → scan ≡ Scan.Not code → r ≡ refusalOf scan (c .at) → Meets s t t′ capacity c given r
+  pub head-not : (t t′ : List ℕ) (scan : Scan) (code : ℕ) (r : Step) → Scans (headText (isArrayTag b)) (headTold (c .at + 1)) s (c .at + 1) scan
+      → scan ≡ Scan.Not code → r ≡ refusalOf scan (c .at) → Meets s t t′ capacity c given r
   head-not t t′ scan code r h e q = meets-bad s t t′ capacity c given r code (c .at) (refused-is scan code (c .at) r q e) (opened ∙ rw (unfit-of h e (c .at)))
 
   module _ (x : Text) (f : Found (headText (isArrayTag b)) (headTold (c .at + 1)) s (c .at + 1) x) where
@@ -90,7 +93,8 @@ module _ (s : List ℕ) (capacity : ℕ) (c : Cursor) (b : ℕ) (is : containerT
     at-first : (inside : Cursor) → inside ≡ within c (x .next) → pairs ≡ pairsAt s capacity b (x .link) inside
     at-first inside e = ap (pairsAt s capacity b (x .link)) (sym e)
 
-    pub pairs-refused : (inside : Cursor) → inside ≡ within c (x .next) → (code at : ℕ) → pairsAt s capacity b (x .link) inside ≡ refused code at → given ≡ refused code at
+    pub pairs-refused : (inside : Cursor) → inside ≡ within c (x .next) → (code at : ℕ) → pairsAt s capacity b (x .link) inside ≡ refused code at
+        → given ≡ refused code at
     pairs-refused inside i code at e = closed-by (at-first inside i ∙ e)
       where
         closed-by : pairs ≡ refused code at → given ≡ refused code at
@@ -130,7 +134,9 @@ module _ (s : List ℕ) (capacity : ℕ) (c : Cursor) (b : ℕ) (is : containerT
         value = branch (record { container = container; spelling = spelling }) (g .pairs)
 
         begins : x .next ≡ pairsOffset (c .at) (record { container = container; spelling = spelling }) (tree.count (g .pairs))
-        begins = head-written s (c .at) (isArrayTag b) x f (omega (arith, fit .inside)) ∙ ap (pairsOffset (c .at) (record { container = container; spelling = spelling })) (count-is ∙ sym all)
+        begins =
+            head-written s (c .at) (isArrayTag b) x f (omega (arith, fit .inside))
+            ∙ ap (pairsOffset (c .at) (record { container = container; spelling = spelling })) (count-is ∙ sym all)
 
         -- the rows of its pairs, and its own
         abbrev below : (ℕ → ℕ) → List Node
@@ -146,16 +152,19 @@ module _ (s : List ℕ) (capacity : ℕ) (c : Cursor) (b : ℕ) (is : containerT
             ∙ ap (nodeOf b (suc (c .ordinal)) (c .node + suc (nodesIn (g .pairs)))) (f .tells ∙ ap (λ (n : ℕ). containerTold (c .at + 1) container n (x .next)) (count-is ∙ sym all))
             ∙ sym (head-node b (c .at) (suc (c .ordinal)) (c .node + suc (nodesIn (g .pairs))) (x .next) container (tree.count (g .pairs)) is of-array)
 
-        below-is : (to : ℕ → ℕ) → below to ≡ tableIn to (pairsOffset (c .at) (record { container = container; spelling = spelling }) (tree.count (g .pairs))) (suc (c .node)) (suc (suc (c .ordinal))) (g .pairs)
+        below-is : (to : ℕ → ℕ)
+            → below to ≡ tableIn to (pairsOffset (c .at) (record { container = container; spelling = spelling }) (tree.count (g .pairs))) (suc (c .node)) (suc (suc (c .ordinal))) (g .pairs)
         below-is to =
             ap (λ (n : ℕ). tableIn to n (c .node + 1) (suc (c .ordinal + 1)) (g .pairs)) begins
             ∙ ap₂ (λ (i n : ℕ). tableIn to (pairsOffset (c .at) (record { container = container; spelling = spelling }) (tree.count (g .pairs))) i n (g .pairs)) (add-one (c .node)) (ap suc (add-one (c .ordinal)))
 
         rows : (to : ℕ → ℕ) → front ++ (last .node ∷ []) ++ flat (below to) ≡ flat (table to (c .at) (c .node) (suc (c .ordinal)) value)
-        rows to = ap (λ (n : Node). words n ++ flat (below to)) own-row ∙ ap (λ (ns : List Node). flat (branchNode (c .at) (suc (c .ordinal)) container (tree.count (g .pairs)) (c .node + suc (nodesIn (g .pairs))) ∷ ns)) (below-is to)
+        rows to =
+            ap (λ (n : Node). words n ++ flat (below to)) own-row
+            ∙ ap (λ (ns : List Node). flat (branchNode (c .at) (suc (c .ordinal)) container (tree.count (g .pairs)) (c .node + suc (nodesIn (g .pairs))) ∷ ns)) (below-is to)
 
-        six : (n : ℕ) → (n + 1) * width ≡ n * width + 6
-        six n = omega arith
+        row-behind : (n : ℕ) → (n + 1) * width ≡ n * width + width
+        row-behind n = omega arith
 
         writes : (to : ℕ → ℕ) → Points to t (c .node) (c .ordinal) → Takes to (c .node) (suc (c .ordinal)) value
             → (t₃ ≡ sets t (c .node * width) (flat (table to (c .at) (c .node) (suc (c .ordinal)) value))) × Points to t₃ (last .node) (last .ordinal)
@@ -166,7 +175,7 @@ module _ (s : List ℕ) (capacity : ℕ) (c : Cursor) (b : ℕ) (is : containerT
             let q₁ : TakesIn to (c .node + 1) (suc (c .ordinal + 1)) (g .pairs) =
             subst₂ (λ (i n : ℕ). TakesIn to i n (g .pairs)) (sym (add-one (c .node))) (ap suc (sym (add-one (c .ordinal)))) (q .1) in
             let w = g .wrote .of to p₁ q₁ in (
-              node-around t t₁ t₂ t₃ front (flat (below to)) (c .node * width) 0 (last .node) refl e₁ (w .0 ∙ ap (λ (k : ℕ). sets t₁ k (flat (below to))) (six (c .node))) e₃
+              node-around t t₁ t₂ t₃ front (flat (below to)) (c .node * width) 0 (last .node) refl e₁ (w .0 ∙ ap (λ (k : ℕ). sets t₁ k (flat (below to))) (row-behind (c .node))) e₃
                   ∙ ap (sets t (c .node * width)) (rows to),
               points-keep to t₂ t₃ (last .node) (last .ordinal) (w .1) (λ i l. ap (λ (u : List ℕ). getD u (i * width + 1) 0) e₃ ∙ getD-set-other t₂ (c .node * width + 5) (i * width + 1) (last .node) 0 (λ z. omega arith)),
             )

@@ -48,17 +48,16 @@ stepped {n = n} none h = absurd (omega arith)
 stepped {s = s} {t = t} {n = n} (pair {i = i} {k = k} {ks = ks} h e l c) lt =
     record { key = k; rest = ks; is = refl; held = h; on = omega arith; chain = subst (λ (x : ℕ). Chain s t x n ks) (sym e) c }
 
--- the next pair stands behind this one, and not behind the last
-module _ {s t : List ℕ} {i n : ℕ} (a : Walk s t i n) (lt : i < n) where
-  pub walk-on : i + 1 < wordAt t i (width + 5)
-  walk-on = stepped (a .chain) lt .on
+-- the pair at node i ends behind it, and not behind the last, which ends at n
+abbrev pub Ends : List ℕ → (i n : ℕ) → Type 0
+Ends t i n = (i + 1 < wordAt t i (width + 5)) × (wordAt t i (width + 5) ≤ n)
 
-  pub walk-in : wordAt t i (width + 5) ≤ n
-  walk-in = chain-le (stepped (a .chain) lt .chain)
+pub walk-ends : {s t : List ℕ} {i n : ℕ} → Walk s t i n → i < n → Ends t i n
+walk-ends a lt = let step = stepped (a .chain) lt in (step .on, chain-le (step .chain))
 
-  -- so the table has its key
-  pub walk-key : n * width ≤ length t → keyWordsIn t i ≡ keyWordsAt t i
-  walk-key h = key-there t i (omega (arith, walk-on, walk-in))
+-- so the table has its key
+pub ends-key : (t : List ℕ) (i n : ℕ) → Ends t i n → n * width ≤ length t → keyWordsIn t i ≡ keyWordsAt t i
+ends-key t i n e h = key-there t i (omega (arith, e, h))
 
 -- the keys that are left to compare
 record Rest (s t : List ℕ) (i n : ℕ) (k : Key) (all : List Key) : Type 0 where
@@ -189,7 +188,8 @@ module _ {s t m₀ m : List ℕ} {first n b i : ℕ} (l : Marking s t m₀ m fir
         from : (m′ : List ℕ) → Grows m m′ → (ks : List Key) → Chain s t b n ks → AllMarked m′ first ks
         from m′ g ks c = let x = l .left ks c in x .rest m′ g (none-left m′ first (x .chain) le)
 
-        earlier : (h : Seen) → b ≡ unmarkedFrom h first n → (m′ : List ℕ) → Grows m m′ → (ks : List Key) → Chain s t first n ks → Known h m₀ first ks → AllMarked m′ first ks
+        earlier : (h : Seen) → b ≡ unmarkedFrom h first n → (m′ : List ℕ) → Grows m m′ → (ks : List Key) → Chain s t first n ks → Known h m₀ first ks
+            → AllMarked m′ first ks
         earlier Seen.Nothing f m′ g ks c u = from m′ g ks (subst (λ (j : ℕ). Chain s t j n ks) (sym f) c)
         earlier (Seen.Upto top) f m′ g ks c u = from m′ g ks (subst (λ (j : ℕ). Chain s t j n ks) (sym f) c)
         earlier Seen.Marked f m′ g ks c u = all-grow m₀ m′ first ks (grows-on (l .grows) g) u
@@ -199,14 +199,16 @@ module _ {s t m₀ m : List ℕ} {first n b i : ℕ} (l : Marking s t m₀ m fir
 int-tag : {s : List ℕ} {q : Quoted} {w : KeyWords} → Held s (stringKey q) w → w .tag ≡ tag Kind.int → ⊥
 int-tag h e = let q = h .is in omega arith
 
-higher-key : (s : List ℕ) (k j : Key) (w : KeyWords) (top : ℕ) → Held s k w → w .tag ≡ tag Kind.int → top < rank (w .content) → KeyFits j → KeyUnder top j → sameKey k j ≡ false
+higher-key : (s : List ℕ) (k j : Key) (w : KeyWords) (top : ℕ) → Held s k w → w .tag ≡ tag Kind.int → top < rank (w .content) → KeyFits j → KeyUnder top j
+    → sameKey k j ≡ false
 higher-key s (stringKey q) j w top h e a f u = absurd (int-tag h e)
 higher-key s (intKey x) (stringKey q) w top h e a f u = refl
 higher-key s (intKey x) (intKey y) w top h e a f u =
     same-word x y (h .fits) f
     ∙ ne-eqb (word (integer x)) (word (integer y)) (λ q. omega (arith, a, u, ap rank (sym q ∙ h .says)))
 
-higher-keys : {s t : List ℕ} {i n : ℕ} {ks : List Key} (k : Key) (w : KeyWords) (top : ℕ) → Held s k w → w .tag ≡ tag Kind.int → top < rank (w .content) → Chain s t i n ks → Under top ks → false ≡ hasKey k ks
+higher-keys : {s t : List ℕ} {i n : ℕ} {ks : List Key} (k : Key) (w : KeyWords) (top : ℕ) → Held s k w → w .tag ≡ tag Kind.int → top < rank (w .content)
+    → Chain s t i n ks → Under top ks → false ≡ hasKey k ks
 higher-keys k w top h e a none u = refl
 higher-keys {s} k w top h e a (pair {k = j} {ks = ks} g b o c) u = rw (higher-key s k j w top h e a (g .fits) (u .0)) (higher-keys k w top h e a c (u .1))
 
@@ -266,7 +268,8 @@ module _ (s t m : List ℕ) (first n : ℕ) (w : KeyWords) (h : Seen) (b : Bool)
           grows = grows-none m;
         }
       where
-        new : (h : Seen) → above h (rank (w .content)) ≡ true → (k : Key) (ks : List Key) → Held s k w → Chain s t first n ks → Known h m first ks → false ≡ hasKey k ks
+        new : (h : Seen) → above h (rank (w .content)) ≡ true → (k : Key) (ks : List Key) → Held s k w → Chain s t first n ks → Known h m first ks
+            → false ≡ hasKey k ks
         new Seen.Nothing a k ks g c u = rw u
         new (Seen.Upto top) a k ks g c u = higher-keys k w top g tag-int (ltb-true top (rank (w .content)) a) c u
         new Seen.Marked a k ks g c u = absurd (let z : _≡_ {A = ℕ} 0 1 = cc in omega arith)
@@ -276,7 +279,8 @@ module _ (s t m : List ℕ) (first n : ℕ) (w : KeyWords) (h : Seen) (b : Bool)
         before (Seen.Upto top) a ks u = under-more top (rank (w .content)) ks (let l = ltb-true top (rank (w .content)) a in omega arith) u
         before Seen.Marked a ks u = absurd (let z : _≡_ {A = ℕ} 0 1 = cc in omega arith)
 
-  pub tested-bare : b ≡ false → length m ≡ 0 → (f : Bool) → ((k : Key) (ks : List Key) → Held s k w → Chain s t first n ks → f ≡ hasKey k ks) → Tested s t m m first n w h f
+  pub tested-bare : b ≡ false → length m ≡ 0 → (f : Bool) → ((k : Key) (ks : List Key) → Held s k w → Chain s t first n ks → f ≡ hasKey k ks)
+      → Tested s t m m first n w h f
   tested-bare down e f o =
       record {
         answer = λ k ks g c u. o k ks g c;

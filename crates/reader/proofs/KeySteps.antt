@@ -79,7 +79,7 @@ module _ (s : List ℕ) (at b : ℕ) (may : mayBeKey b ≡ true) (here : at < le
         omega (arith, o, n, ap length w, length-drop at s, quoted-length q (byte ";" ∷ drop (x .next) s), number-length (q .spelling) (length (q .text)) []),
       )
 
-  held-of : Held s (f .what) (record { tag = b; content = x .content; size = x .size })
+  pub held-of : Held s (f .what) (record { tag = b; content = x .content; size = x .size })
   held-of =
       record {
         is = sym (ap tag kind-is ∙ tag-back);
@@ -167,7 +167,7 @@ module _ (s : List ℕ) (capacity container : ℕ) (c : Cursor) (earlier : List 
           may : mayBeKey b ≡ true
           may = key-any (isArrayTag container) b e
 
-          pub key-held : Held s (f .what) (record { tag = b; content = x .content; size = x .size })
+          key-held : Held s (f .what) (record { tag = b; content = x .content; size = x .size })
           key-held = held-of s (c .at) b may h q x f
 
           pub key-good : (t t′ : List ℕ) (c′ : Cursor) → Fit s t capacity c → hasKey (f .what) earlier ≡ false → Placed t t′ c b x false c′ → GoodKey s t t′ capacity c given c′

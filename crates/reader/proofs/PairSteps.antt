@@ -47,20 +47,22 @@ has-snoc x k [] = refl
 has-snoc x k (j ∷ ks) = ap (λ (b : Bool). sameKey x j || b) (has-snoc x k ks) ∙ or-swap (sameKey x j) (sameKey x k) (hasKey x ks)
 
 -- the key at a node, where the words are as they were
-held-kept : {s : List ℕ} (t t′ : List ℕ) (k : Key) (i : ℕ) → ((j : ℕ) → j < width → wordAt t′ i j ≡ wordAt t i j) → Held s k (keyWordsAt t i) → Held s k (keyWordsAt t′ i)
+held-kept : {s : List ℕ} (t t′ : List ℕ) (k : Key) (i : ℕ) → ((j : ℕ) → j < width → wordAt t′ i j ≡ wordAt t i j) → Held s k (keyWordsAt t i)
+    → Held s k (keyWordsAt t′ i)
 held-kept t t′ k i same h = rw (same 0 (lit< tt), same 2 (lit< tt), same 3 (lit< tt)) h
 
-chain-more : {s t : List ℕ} (t′ : List ℕ) {i n : ℕ} {ks : List Key} (k : Key) (m : ℕ) → Kept t t′ n → Held s k (keyWordsAt t′ n) → wordAt t′ n (width + 5) ≡ m → n + 1 < m
-    → Chain s t i n ks → Chain s t′ i m (ks ++ (k ∷ []))
+chain-more : {s t : List ℕ} (t′ : List ℕ) {i n : ℕ} {ks : List Key} (k : Key) (m : ℕ) → Kept t t′ n → Held s k (keyWordsAt t′ n) → wordAt t′ n (width + 5) ≡ m
+    → n + 1 < m → Chain s t i n ks → Chain s t′ i m (ks ++ (k ∷ []))
 chain-more t′ k m same h e l none = pair h e l none
 chain-more {t = t} t′ k m same h e l (pair {i = i} {k = j} a b o c) =
     let q = chain-le c in
-    pair (held-kept t t′ j i (λ x u. same (i * width + x) (omega arith)) a) (same (i * width + 11) (omega arith) ∙ b) o (chain-more t′ k m same h e l c)
+    pair (held-kept t t′ j i (λ x u. same (i * width + x) (omega arith)) a) (same (i * width + (width + 5)) (omega arith) ∙ b) o (chain-more t′ k m same h e l c)
 
 -- ---- what the loop keeps
 
 unfoldable restAt : (s : List ℕ) (capacity container levels more : ℕ) → List Key → Cursor → Answer (Values × List ℕ)
-restAt s capacity container levels more earlier c = readPairs (setting capacity s) (innerAt s capacity levels) (isArrayTag container) more earlier (c .ordinal) (c .node) (drop (c .at) s)
+restAt s capacity container levels more earlier c =
+    readPairs (setting capacity s) (innerAt s capacity levels) (isArrayTag container) more earlier (c .ordinal) (c .node) (drop (c .at) s)
 
 pub record Run (s t₀ t m₀ m : List ℕ) (capacity container count : ℕ) (c₀ c : Cursor) (more : ℕ) (seen : Seen) : Type 0 where
   pub pairs : Values
@@ -78,7 +80,8 @@ pub record Run (s t₀ t m₀ m : List ℕ) (capacity container count : ℕ) (c�
   pub grown : Grows m₀ m
   pub filter-long : length m ≡ length m₀
 
-pub run-start : (s t m : List ℕ) (capacity container count : ℕ) (c : Cursor) → Fit s t capacity c → Run s t t m m capacity container count c c count Seen.Nothing
+pub run-start : (s t m : List ℕ) (capacity container count : ℕ) (c : Cursor) → Fit s t capacity c
+    → Run s t t m m capacity container count c c count Seen.Nothing
 unfolding write pairsAt restAt
 run-start s t m capacity container count c f =
     record {
@@ -133,7 +136,8 @@ module _ {s t₀ t m₀ m : List ℕ} {capacity container count : ℕ} {c₀ c :
     unfolding restAt keyAt
     run-key-bad code at e = rest-bad code at (go more some)
       where
-        go : (m : ℕ) → 0 < m → readPairs (setting capacity s) (innerAt s capacity (c₀ .levels)) (isArrayTag container) m (r .earlier) (c .ordinal) (c .node) (drop (c .at) s) ≡ refused code at
+        go : (m : ℕ) → 0 < m
+            → readPairs (setting capacity s) (innerAt s capacity (c₀ .levels)) (isArrayTag container) m (r .earlier) (c .ordinal) (c .node) (drop (c .at) s) ≡ refused code at
         go zero h = absurd (omega arith)
         go (suc m) h = rw e
 
@@ -150,7 +154,8 @@ module _ {s t₀ t m₀ m : List ℕ} {capacity container count : ℕ} {c₀ c :
       unfolding restAt keyAt
       run-value-bad code at e = rest-bad code at (go more some)
         where
-          go : (m : ℕ) → 0 < m → readPairs (setting capacity s) (innerAt s capacity (c₀ .levels)) (isArrayTag container) m (r .earlier) (c .ordinal) (c .node) (drop (c .at) s) ≡ refused code at
+          go : (m : ℕ) → 0 < m
+              → readPairs (setting capacity s) (innerAt s capacity (c₀ .levels)) (isArrayTag container) m (r .earlier) (c .ordinal) (c .node) (drop (c .at) s) ≡ refused code at
           go zero h = absurd (omega arith)
           go (suc m) h = rw (k .is, value-is, e)
 
@@ -203,7 +208,7 @@ module _ {s t₀ t m₀ m : List ℕ} {capacity container count : ℕ} {c₀ c :
         ends : wordAt t₂ (c .node) (width + 5) ≡ after .node
         ends = ap (λ (i : ℕ). getD t₂ i 0) (place (k .node)) ∙ g .end
           where
-            place : mid .node ≡ c .node + 1 → c .node * width + 11 ≡ mid .node * width + 5
+            place : mid .node ≡ c .node + 1 → c .node * width + (width + 5) ≡ mid .node * width + 5
             place e = omega arith
 
         listed : Earlier s t₂ m₂ (c₀ .node) (after .node) seen′ (k .key ∷ r .earlier)
@@ -256,7 +261,8 @@ module _ {s t₀ t m₀ m : List ℕ} {capacity container count : ℕ} {c₀ c :
             next-node : suc (c .node) ≡ mid .node
             next-node = omega (arith, k .node)
 
-            rows : (to : ℕ → ℕ) → before to ++ (words (keyNode (c .at) (c .node) (k .key)) ++ vs to) ≡ flat (tableIn to (c₀ .at) (c₀ .node) (suc (c₀ .ordinal)) (snoc (r .pairs) (k .key) (g .value)))
+            rows : (to : ℕ → ℕ)
+                → before to ++ (words (keyNode (c .at) (c .node) (k .key)) ++ vs to) ≡ flat (tableIn to (c₀ .at) (c₀ .node) (suc (c₀ .ordinal)) (snoc (r .pairs) (k .key) (g .value)))
             rows to =
                 sym (ap flat (table-snoc to (r .pairs) (k .key) (g .value) (c₀ .at) (c₀ .node) (suc (c₀ .ordinal)) (c .at) (c .node) (suc (mid .ordinal)) (r .behind) (r .node) (sym ordinals-are))
                 ∙ flat-append (tableIn to (c₀ .at) (c₀ .node) (suc (c₀ .ordinal)) (r .pairs)) (keyNode (c .at) (c .node) (k .key) ∷ table to (valueOffset (c .at) (k .key)) (suc (c .node)) (suc (mid .ordinal)) (g .value))
@@ -268,7 +274,8 @@ module _ {s t₀ t m₀ m : List ℕ} {capacity container count : ℕ} {c₀ c :
             record {
               pairs = snoc (r .pairs) (k .key) (g .value);
               earlier = k .key ∷ r .earlier;
-              all = r .all ∙ ap (onto (r .pairs)) rest-good ∙ onto-snoc (r .pairs) (k .key) (g .value) (restAt s capacity container (c₀ .levels) (more - 1) (k .key ∷ r .earlier) after);
+              all = r .all ∙ ap (onto (r .pairs)) rest-good
+                  ∙ onto-snoc (r .pairs) (k .key) (g .value) (restAt s capacity container (c₀ .levels) (more - 1) (k .key ∷ r .earlier) after);
               keys = listed;
               node = omega (arith, r .node, k .node, g .node, nodes-snoc (r .pairs) (k .key) (g .value));
               ordinal = omega (arith, r .ordinal, k .ordinal, g .ordinal, ordinals-snoc (r .pairs) (k .key) (g .value));
@@ -285,5 +292,6 @@ module _ {s t₀ t m₀ m : List ℕ} {capacity container count : ℕ} {c₀ c :
             fits : Fit s t capacity c → Fit s t₂ capacity after
             fits f = record { inside = g .inside; table = omega arith; node = g .fits; ordinal = omega (arith, g .ordinal, g .node, k .ordinal, k .node, ordinals-le (g .value)) }
 
-pub pairs-bad : (s t t′ : List ℕ) (capacity : ℕ) (c : Cursor) (o : Answer (Values × List ℕ)) (r : Step) (code at : ℕ) → r ≡ Step.Refused code at → o ≡ refused code at → MeetsPairs s t t′ capacity c o r
+pub pairs-bad : (s t t′ : List ℕ) (capacity : ℕ) (c : Cursor) (o : Answer (Values × List ℕ)) (r : Step) (code at : ℕ) → r ≡ Step.Refused code at
+    → o ≡ refused code at → MeetsPairs s t t′ capacity c o r
 pairs-bad s t t′ capacity c o r code at e h = subst (MeetsPairs s t t′ capacity c o) (sym e) h

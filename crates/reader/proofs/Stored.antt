@@ -25,15 +25,15 @@ set-sets (v ∷ vs) l i j x h =
     ∙ ap (λ (k : List ℕ). sets k (suc j) vs) (set-comm l j i v x (λ e. omega arith))
 
 -- a node's last word, stored again after the nodes that follow it
-pub node-around : (t t₁ t₂ t₃ front ws : List ℕ) (k y x : ℕ) → length front ≡ 5 → t₁ ≡ sets t k (front ++ (y ∷ [])) → t₂ ≡ sets t₁ (k + 6) ws → t₃ ≡ sets t₂ (k + 5) (x ∷ [])
-    → t₃ ≡ sets t k (front ++ (x ∷ []) ++ ws)
+pub node-around : (t t₁ t₂ t₃ front ws : List ℕ) (k y x : ℕ) → length front ≡ 5 → t₁ ≡ sets t k (front ++ (y ∷ [])) → t₂ ≡ sets t₁ (k + width) ws
+    → t₃ ≡ sets t₂ (k + 5) (x ∷ []) → t₃ ≡ sets t k (front ++ (x ∷ []) ++ ws)
 node-around t t₁ t₂ t₃ front ws k y x l e₁ e₂ e₃ =
     e₃
     ∙ ap (λ (u : List ℕ). set u (k + 5) x) e₂
-    ∙ set-sets ws t₁ (k + 5) (k + 6) x (omega arith)
-    ∙ ap (λ (u : List ℕ). sets (set u (k + 5) x) (k + 6) ws) (e₁ ∙ sym (sets-append front (y ∷ []) t k (k + 5) (omega arith)))
-    ∙ ap (λ (u : List ℕ). sets u (k + 6) ws) (set-set (sets t k front) (k + 5) y x ∙ sets-append front (x ∷ []) t k (k + 5) (omega arith))
-    ∙ sets-append (front ++ (x ∷ [])) ws t k (k + 6) (omega (arith, length-append front (x ∷ [])))
+    ∙ set-sets ws t₁ (k + 5) (k + width) x (omega arith)
+    ∙ ap (λ (u : List ℕ). sets (set u (k + 5) x) (k + width) ws) (e₁ ∙ sym (sets-append front (y ∷ []) t k (k + 5) (omega arith)))
+    ∙ ap (λ (u : List ℕ). sets u (k + width) ws) (set-set (sets t k front) (k + 5) y x ∙ sets-append front (x ∷ []) t k (k + 5) (omega arith))
+    ∙ sets-append (front ++ (x ∷ [])) ws t k (k + width) (omega (arith, length-append front (x ∷ [])))
 
 -- words before a run, and in it
 sets-before : (ws t : List ℕ) (k i : ℕ) → i < k → getD (sets t k ws) i 0 ≡ getD t i 0
@@ -43,7 +43,8 @@ sets-before (w ∷ ws) t k i h = sets-before ws (set t k w) (suc k) i (omega ari
 sets-at : (ws t : List ℕ) (k j : ℕ) → j < length ws → k + length ws ≤ length t → getD (sets t k ws) (k + j) 0 ≡ getD ws j 0
 sets-at [] t k j h l = absurd (omega arith)
 sets-at (w ∷ ws) t k zero h l =
-    ap (λ (i : ℕ). getD (sets (set t k w) (suc k) ws) i 0) (add-zero k) ∙ sets-before ws (set t k w) (suc k) k (omega arith) ∙ getD-set-same t k w 0 (omega arith)
+    ap (λ (i : ℕ). getD (sets (set t k w) (suc k) ws) i 0) (add-zero k) ∙ sets-before ws (set t k w) (suc k) k (omega arith)
+    ∙ getD-set-same t k w 0 (omega arith)
 sets-at (w ∷ ws) t k (suc j) h l =
     ap (λ (i : ℕ). getD (sets (set t k w) (suc k) ws) i 0) (add-suc k j ∙ sym (suc-add k j))
     ∙ sets-at ws (set t k w) (suc k) j (omega arith) (omega (arith, length-sets t k (w ∷ [])))
@@ -51,7 +52,8 @@ sets-at (w ∷ ws) t k (suc j) h l =
 pub run-kept : (t t′ ws : List ℕ) (node : ℕ) → t′ ≡ sets t (node * width) ws → Kept t t′ node
 run-kept t t′ ws node e i h = ap (λ (u : List ℕ). getD u i 0) e ∙ sets-before ws t (node * width) i h
 
-pub run-word : (t t′ ws : List ℕ) (node j : ℕ) → t′ ≡ sets t (node * width) ws → j < length ws → node * width + length ws ≤ length t → wordAt t′ node j ≡ getD ws j 0
+pub run-word : (t t′ ws : List ℕ) (node j : ℕ) → t′ ≡ sets t (node * width) ws → j < length ws → node * width + length ws ≤ length t
+    → wordAt t′ node j ≡ getD ws j 0
 run-word t t′ ws node j e h l = ap (λ (u : List ℕ). getD u (node * width + j) 0) e ∙ sets-at ws t (node * width) j h l
 
 -- ---- ordinals
@@ -59,7 +61,8 @@ run-word t t′ ws node j e h l = ap (λ (u : List ℕ). getD u (node * width + 
 pub points-none : (to : ℕ → ℕ) (t : List ℕ) → Points to t 0 0
 points-none to t = record { below = λ i h. absurd (omega arith); found = λ n a b. absurd (omega arith); only = λ n i a h e. absurd (omega arith) }
 
-pub points-keep : (to : ℕ → ℕ) (t t′ : List ℕ) (node ordinal : ℕ) → Points to t node ordinal → ((i : ℕ) → i < node → wordAt t′ i 1 ≡ wordAt t i 1) → Points to t′ node ordinal
+pub points-keep : (to : ℕ → ℕ) (t t′ : List ℕ) (node ordinal : ℕ) → Points to t node ordinal → ((i : ℕ) → i < node → wordAt t′ i 1 ≡ wordAt t i 1)
+    → Points to t′ node ordinal
 points-keep to t t′ node ordinal p k =
     record {
       below = λ i h. omega (arith, p .below i h, k i h);

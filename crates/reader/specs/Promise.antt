@@ -6,7 +6,8 @@ use Rattle.format.specs.Answer.{Answer, ok, refused}
 use Rattle.format.specs.Reading.{capacityOf, Counts, answer, tableAfter}
 use Rattle.reader.specs.declared.Reading.{Reading}
 
--- the paper's number and values for each case of the enum: "Reading returns the count of nodes and of numbers taken." "A refusal returns its number and a position"
+-- the paper's number and values for each case of the enum:
+-- "Reading returns the count of nodes and of numbers taken." "A refusal returns its number and a position"
 unfoldable pub answerOf : Reading → Answer Counts
 answerOf (Reading.Accepted nodes ordinals) = ok (record { nodes = nodes; ordinals = ordinals })
 answerOf (Reading.Refused code at) = refused code at

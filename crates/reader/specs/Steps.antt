@@ -57,7 +57,8 @@ bodyAt s capacity inner tag c = readBody (setting capacity s) inner (kindFor tag
 
 -- so many pairs of a container with this tag
 unfoldable pub pairsAt : (s : List ℕ) (capacity container count : ℕ) → Cursor → Answer (Values × List ℕ)
-pairsAt s capacity container count c = readPairs (setting capacity s) (innerAt s capacity (c .levels)) (isArrayTag container) count [] (c .ordinal) (c .node) (drop (c .at) s)
+pairsAt s capacity container count c =
+    readPairs (setting capacity s) (innerAt s capacity (c .levels)) (isArrayTag container) count [] (c .ordinal) (c .node) (drop (c .at) s)
 
 unfoldable pub keyAt : (s : List ℕ) (capacity container : ℕ) → (earlier : List Key) → Cursor → Answer (Key × List ℕ)
 keyAt s capacity container earlier c = readKey (setting capacity s) (isArrayTag container) earlier (c .node) (drop (c .at) s)

@@ -43,8 +43,12 @@ pub(crate) fn read_key(
 ) -> Step
     requires { ⌜ Fit (now source) (now table) capacity cursor ⌝ }
     requires { ⌜ Walk (now source) (now table) first (cursor .node) ⌝ }
-    ensures { λ r. ⌜ ((earlier : List Key) → Earlier (now (source .entry)) (now (table .entry)) (now (filter .entry)) first (cursor .node) seen earlier → MeetsKey (now (source .entry)) (now (table .entry)) (now (table .exit)) capacity cursor (keyAt (now (source .entry)) capacity container earlier cursor) r) ⌝ }
-    ensures { λ r. ⌜ Remembers (now (source .entry)) (now (table .entry)) (now (table .exit)) (now (filter .entry)) (now (filter .exit)) first (cursor .node) seen r ⌝ }
+    ensures { λ r. ⌜ ((earlier : List Key)
+        → Earlier (now (source .entry)) (now (table .entry)) (now (filter .entry)) first (cursor .node) seen earlier
+        → MeetsKey (now (source .entry)) (now (table .entry)) (now (table .exit)) capacity cursor
+        (keyAt (now (source .entry)) capacity container earlier cursor) r) ⌝ }
+    ensures { λ r. ⌜ Remembers (now (source .entry)) (now (table .entry)) (now (table .exit)) (now (filter .entry)) (now (filter .exit))
+        first (cursor .node) seen r ⌝ }
 {
     let at = cursor.at;
     let node = cursor.node;

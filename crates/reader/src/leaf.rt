@@ -26,7 +26,8 @@ fn put_scalar(
     requires { ⌜ Fit (now source) (now table) capacity cursor ⌝ }
     requires { ⌜ (cursor .at < length (now source)) × (cursor .node < capacity) × scalarTag tag ⌝ }
     requires { ⌜ Answers (scalarBehind tag) (scalarTold (cursor .at + 1)) (now source) (cursor .at + 1) scan ⌝ }
-    ensures { λ r. ⌜ ((inner : Inner) → Meets (now (source .entry)) (now (table .entry)) (now (table .exit)) capacity cursor (bodyAt (now (source .entry)) capacity inner tag cursor) r) ⌝ }
+    ensures { λ r. ⌜ ((inner : Inner) → Meets (now (source .entry)) (now (table .entry)) (now (table .exit)) capacity cursor
+        (bodyAt (now (source .entry)) capacity inner tag cursor) r) ⌝ }
 {
     let Scan::Is(text) = scan else {
         return refused(scan, cursor.at);
@@ -44,7 +45,8 @@ pub(crate) fn read_scalar(
 ) -> Step
     requires { ⌜ Fit (now source) (now table) capacity cursor ⌝ }
     requires { ⌜ (cursor .at < length (now source)) × (cursor .node < capacity) × scalarTag tag ⌝ }
-    ensures { λ r. ⌜ ((inner : Inner) → Meets (now (source .entry)) (now (table .entry)) (now (table .exit)) capacity cursor (bodyAt (now (source .entry)) capacity inner tag cursor) r) ⌝ }
+    ensures { λ r. ⌜ ((inner : Inner) → Meets (now (source .entry)) (now (table .entry)) (now (table .exit)) capacity cursor
+        (bodyAt (now (source .entry)) capacity inner tag cursor) r) ⌝ }
 {
     let scan = scanner::scalar::scalar(source, cursor.at + 1, tag);
     put_scalar(source, table, capacity, cursor, tag, scan)
@@ -60,7 +62,8 @@ pub(crate) fn read_common(
 ) -> Step
     requires { ⌜ Fit (now source) (now table) capacity cursor ⌝ }
     requires { ⌜ (cursor .at < length (now source)) × (cursor .node < capacity) × scalarTag tag ⌝ }
-    ensures { λ r. ⌜ ((inner : Inner) → Meets (now (source .entry)) (now (table .entry)) (now (table .exit)) capacity cursor (bodyAt (now (source .entry)) capacity inner tag cursor) r) ⌝ }
+    ensures { λ r. ⌜ ((inner : Inner) → Meets (now (source .entry)) (now (table .entry)) (now (table .exit)) capacity cursor
+        (bodyAt (now (source .entry)) capacity inner tag cursor) r) ⌝ }
 {
     let scan = scanner::in_line::value(source, cursor.at + 1, tag);
     put_scalar(source, table, capacity, cursor, tag, scan)
@@ -76,7 +79,8 @@ pub(crate) fn read_reference(
 ) -> Step
     requires { ⌜ Fit (now source) (now table) capacity cursor ⌝ }
     requires { ⌜ (cursor .at < length (now source)) × (cursor .node < capacity) × referenceTag tag ⌝ }
-    ensures { λ r. ⌜ ((inner : Inner) → Meets (now (source .entry)) (now (table .entry)) (now (table .exit)) capacity cursor (bodyAt (now (source .entry)) capacity inner tag cursor) r) ⌝ }
+    ensures { λ r. ⌜ ((inner : Inner) → Meets (now (source .entry)) (now (table .entry)) (now (table .exit)) capacity cursor
+        (bodyAt (now (source .entry)) capacity inner tag cursor) r) ⌝ }
 {
     let at = cursor.at;
     let scan = scanner::number::named(source, at + 1);

@@ -21,7 +21,8 @@ fn scan(table: &[u64], from: usize, to: usize, ordinal: u64) -> usize
     i
 }
 
-// Where to begin: each value but the plan's own has its key before it, so two nodes at least stand before it for each earlier ordinal. Only the time rests on that.
+// Where to begin: each value but the plan's own has its key before it, so two nodes at least stand before it for each earlier ordinal.
+// Only the time rests on that.
 fn hint(nodes: usize, ordinal: u64) -> usize
     requires { ⌜ 0 < ordinal ⌝ }
     ensures { λ r. ⌜ r ≤ nodes ⌝ }

@@ -34,7 +34,8 @@ fn rank(pattern: u64) -> u64
 fn walk(source: &[u8], table: &[u64], first: usize, node: usize, key: KeyWords) -> bool
     requires { ⌜ node * width ≤ length (now table) ⌝ }
     requires { ⌜ Walk (now source) (now table) first node ⌝ }
-    ensures { λ r. ⌜ ((k : Key) (ks : List Key) → Held (now (source .entry)) k key → Chain (now (source .entry)) (now (table .entry)) first node ks → r ≡ hasKey k ks) ⌝ }
+    ensures { λ r. ⌜ ((k : Key) (ks : List Key) → Held (now (source .entry)) k key
+        → Chain (now (source .entry)) (now (table .entry)) first node ks → r ≡ hasKey k ks) ⌝ }
 {
     let mut i = first;
     while i < node {

@@ -58,7 +58,8 @@ fn read_value(
     }
 }
 
-// A plan's own value, around all others. Reads as `read_value` does, which so is called in one place only, and the compiler keeps it in the loop over the pairs.
+// A plan's own value, around all others. Reads as `read_value` does, which so is called in one place only, and the compiler keeps it
+// in the loop over the pairs.
 pub(crate) fn read_root(
     source: &[u8],
     table: &mut [u64],
@@ -102,7 +103,8 @@ fn read_container(
 ) -> Step
     requires { ⌜ Fit (now source) (now table) capacity cursor ⌝ }
     requires { ⌜ (cursor .at < length (now source)) × (cursor .node < capacity) × (0 < cursor .levels) × containerTag tag ⌝ }
-    ensures { λ r. ⌜ Meets (now (source .entry)) (now (table .entry)) (now (table .exit)) capacity cursor (bodyAt (now (source .entry)) capacity (innerAt (now (source .entry)) capacity (cursor .levels - 1)) tag cursor) r ⌝ }
+    ensures { λ r. ⌜ Meets (now (source .entry)) (now (table .entry)) (now (table .exit)) capacity cursor
+        (bodyAt (now (source .entry)) capacity (innerAt (now (source .entry)) capacity (cursor .levels - 1)) tag cursor) r ⌝ }
     ensures { λ r. ⌜ Grows (now (filter .entry)) (now (filter .exit)) ⌝ }
 {
     let at = cursor.at;
@@ -139,7 +141,8 @@ fn read_pairs(
     count: u64,
 ) -> Step
     requires { ⌜ Fit (now source) (now table) capacity start ⌝ }
-    ensures { λ r. ⌜ MeetsPairs (now (source .entry)) (now (table .entry)) (now (table .exit)) capacity start (pairsAt (now (source .entry)) capacity container count start) r ⌝ }
+    ensures { λ r. ⌜ MeetsPairs (now (source .entry)) (now (table .entry)) (now (table .exit)) capacity start
+        (pairsAt (now (source .entry)) capacity container count start) r ⌝ }
     ensures { λ r. ⌜ Grows (now (filter .entry)) (now (filter .exit)) ⌝ }
 {
     let first = start.node;

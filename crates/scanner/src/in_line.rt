@@ -1,4 +1,5 @@
-// Texts of scalars where most time goes: those that keys and values mostly have are scanned in line, all others by `scalar`. Each is called in one place only, so that the compiler keeps it there.
+// Texts of scalars where most time goes: those that keys and values mostly have are scanned in line, all others by `scalar`. Each is called
+// in one place only, so that the compiler keeps it there.
 use crate::Scan;
 use crate::Text;
 use crate::flag::null;

@@ -7,8 +7,8 @@ pub mod number;
 mod quoted;
 pub mod scalar;
 
-// What a text tells: words 2, 3 and 4 of the node, and the index after the text. Words that stand side by side in a node stand apart here: loaded as one pair, they would wait
-// for the two stores of the scan.
+// What a text tells: words 2, 3 and 4 of the node, and the index after the text. Words that stand side by side in a node stand apart here:
+// loaded as one pair, they would wait for the two stores of the scan.
 pub struct Text {
     pub content: u64,
     pub link: u64,

@@ -20,10 +20,20 @@ run-at-requires : tie.Need-run-at-requires
 run-at-requires c κs = search needs
 
 returns-2 : tie.Need-returns-2
-returns-2 c = floats.exponent-digits _ _ _ _ (c .before .before .before .before .before .if1 .left) (c .before .before .before .match .keys1) (c .before .before .sign-end .ensures) (c .before .run-at .ensures) (c .if2 .taken)
+returns-2 c =
+    let ran = c .before in
+    let signed = ran .before in
+    let matched = signed .before in
+    let inside = matched .before .before in
+    floats.exponent-digits _ _ _ _ (inside .if1 .left) (matched .match .keys1) (signed .sign-end .ensures) (ran .run-at .ensures) (c .if2 .taken)
 
 returns-3 : tie.Need-returns-3
-returns-3 c = floats.exponent-bare _ _ _ _ (c .before .before .before .before .before .if1 .left) (c .before .before .before .match .keys1) (c .before .before .sign-end .ensures) (c .before .run-at .ensures) (c .if2 .left)
+returns-3 c =
+    let ran = c .before in
+    let signed = ran .before in
+    let matched = signed .before in
+    let inside = matched .before .before in
+    floats.exponent-bare _ _ _ _ (inside .if1 .left) (matched .match .keys1) (signed .sign-end .ensures) (ran .run-at .ensures) (c .if2 .left)
 
 returns-4 : tie.Need-returns-4
 returns-4 c = floats.exponent-other _ _ (c .before .before .if1 .left) (c .match .rest .1)

@@ -21,7 +21,10 @@ same-bytes-requires-2 : tie.Need-same-bytes-requires-2
 same-bytes-requires-2 c κs = search needs
 
 returns-2 : tie.Need-returns-2
-returns-2 c = floats.float-minus _ (sym (c .before .before .before .before .same-bytes .ensures) ∙ c .before .before .before .if1 .left) (sym (c .before .same-bytes2 .ensures) ∙ c .if2 .taken)
+returns-2 c =
+    let asked = c .before in
+    let not-inf = asked .before .before in
+    floats.float-minus _ (sym (not-inf .before .same-bytes .ensures) ∙ not-inf .if1 .left) (sym (asked .same-bytes2 .ensures) ∙ c .if2 .taken)
 
 slice-aggregate-same-bytes-3 : tie.Need-slice-aggregate-same-bytes-3
 slice-aggregate-same-bytes-3 c = search needs
@@ -30,7 +33,12 @@ same-bytes-requires-3 : tie.Need-same-bytes-requires-3
 same-bytes-requires-3 c κs = search needs
 
 returns-3 : tie.Need-returns-3
-returns-3 c = floats.float-nan _ (sym (c .before .before .before .before .before .before .before .same-bytes .ensures) ∙ c .before .before .before .before .before .before .if1 .left) (sym (c .before .before .before .before .same-bytes2 .ensures) ∙ c .before .before .before .if2 .left) (sym (c .before .same-bytes3 .ensures) ∙ c .if3 .taken)
+returns-3 c =
+    let asked = c .before in
+    let not-minus = asked .before .before in
+    let not-inf = not-minus .before .before .before in
+    floats.float-nan _ (sym (not-inf .before .same-bytes .ensures) ∙ not-inf .if1 .left) (sym (not-minus .before .same-bytes2 .ensures) ∙ not-minus .if2 .left)
+    (sym (asked .same-bytes3 .ensures) ∙ c .if3 .taken)
 
 sign-end-requires : tie.Need-sign-end-requires
 sign-end-requires c κs = search needs
@@ -39,7 +47,15 @@ is-decimal-requires : tie.Need-is-decimal-requires
 is-decimal-requires c κs = search needs
 
 returns-4 : tie.Need-returns-4
-returns-4 c = c .is-decimal .ensures ∙ floats.float-decimal _ (sym (c .before .before .before .before .before .before .before .before .before .same-bytes .ensures) ∙ c .before .before .before .before .before .before .before .before .if1 .left) (sym (c .before .before .before .before .before .before .same-bytes2 .ensures) ∙ c .before .before .before .before .before .if2 .left) (sym (c .before .before .before .same-bytes3 .ensures) ∙ c .before .before .if3 .left) _ (c .before .sign-end .ensures)
+returns-4 c =
+    let signed = c .before in
+    let not-nan = signed .before in
+    let not-minus = not-nan .before .before .before in
+    let not-inf = not-minus .before .before .before in
+    c .is-decimal .ensures
+    ∙ floats.float-decimal _ (sym (not-inf .before .same-bytes .ensures) ∙ not-inf .if1 .left)
+    (sym (not-minus .before .same-bytes2 .ensures) ∙ not-minus .if2 .left)
+    (sym (not-nan .before .same-bytes3 .ensures) ∙ not-nan .if3 .left) _ (signed .sign-end .ensures)
 
 pub is-float-spec : {M : Type 1} → statement M
 is-float-spec =

@@ -28,7 +28,11 @@ returns-2 : tie.Need-returns-2
 returns-2 c = floats.end-minus _ _ (sym (c .before .byte-is2 .ensures) ∙ c .if2 .taken)
 
 returns-3 : tie.Need-returns-3
-returns-3 c = floats.end-none _ _ (c .before .before .before .before .before .pre) (sym (c .before .before .before .byte-is .ensures) ∙ c .before .before .if1 .left) (sym (c .before .byte-is2 .ensures) ∙ c .if2 .left)
+returns-3 c =
+    let asked = c .before in
+    let no-plus = asked .before in
+    let start = no-plus .before .before .before in
+    floats.end-none _ _ (start .pre) (sym (no-plus .before .byte-is .ensures) ∙ no-plus .if1 .left) (sym (asked .byte-is2 .ensures) ∙ c .if2 .left)
 
 pub sign-end-spec : {M : Type 1} → statement M
 sign-end-spec =

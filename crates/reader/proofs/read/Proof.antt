@@ -21,20 +21,22 @@ same-length c = search needs
 
 returns : tie.Need-returns
 returns c =
-    let clear = c .before .before in
-    let step = clear .before .before .before in
-    let read-by-length = step .before .before .before .before in
-    whole.reads-refused _ _ _ _ (read-by-length .read-by-length .result) _ _ (read-by-length .read-by-length .ensures) (step .step .given .1) (clear .clear .ensures) (read-by-length .read-by-length .kept .1 .0)
+    let cleared = c .before .before in
+    let failed = cleared .before .before .before in
+    let called = failed .before .before .before .before in
+    let read = called .read-by-length in
+    whole.reads-refused _ _ _ _ (read .result) _ _ (read .ensures) (failed .step .given .1) (cleared .clear .ensures) (read .kept .1 .0)
 
 same-length-2 : tie.Need-same-length-2
 same-length-2 c = search needs
 
 returns-2 : tie.Need-returns-2
 returns-2 c =
-    let step2 = c .before in
-    let read-by-length = step2 .before .before .before .before in
-    let start = read-by-length .before .before .before .before in
-    whole.reads-accepted _ _ _ (start .args .table .now) (read-by-length .read-by-length .result) _ (read-by-length .read-by-length .ensures) (step2 .step2 .given .1)
+    let done = c .before in
+    let called = done .before .before .before .before in
+    let start = called .before .before .before .before in
+    let read = called .read-by-length in
+    whole.reads-accepted _ _ _ (start .args .table .now) (read .result) _ (read .ensures) (done .step2 .given .1)
 
 pub read-spec : {M : Type 1} → statement M
 read-spec =

@@ -26,10 +26,11 @@ same-length-2 c = search needs
 
 returns-2 : tie.Need-returns-2
 returns-2 c =
-    let read-root = c .before .before .before .before .before .before in
-    let if1 = read-root .before .before .before in
-    let start = if1 .before .before .before .before in
-    whole.whole-refused _ (start .args .table .now) (read-root .read-root .last .1 .0) _ _ _ _ (c .enum-told .given .1) (whole.whole-bad _ _ (if1 .if1 .left) _ _ (subst (Meets _ _ _ _ _ _) (c .enum-told .given .1) (read-root .read-root .ensures .0)))
+    let read = c .before .before .before .before .before .before in
+    let short = read .before .before .before in
+    let start = short .before .before .before .before in
+    let refused = subst (Meets _ _ _ _ _ _) (c .enum-told .given .1) (read .read-root .ensures .0) in
+    whole.whole-refused _ (start .args .table .now) (read .read-root .last .1 .0) _ _ _ _ (c .enum-told .given .1) (whole.whole-bad _ _ (short .if1 .left) _ _ refused)
 
 same-length-3 : tie.Need-same-length-3
 same-length-3 c = search needs
@@ -39,10 +40,10 @@ same-length-4 c = search needs
 
 returns-3 : tie.Need-returns-3
 returns-3 c =
-    let step = c .before .before in
-    let read-root = step .before .before .before .before .before .before in
-    let if1 = read-root .before .before .before in
-    whole.whole-more _ _ _ _ _ (if1 .if1 .left) (subst (Meets _ _ _ _ _ _) (step .step .given .1) (read-root .read-root .ensures .0)) (c .if2 .taken)
+    let done = c .before .before in
+    let read = done .before .before .before .before .before .before in
+    let short = read .before .before .before in
+    whole.whole-more _ _ _ _ _ (short .if1 .left) (subst (Meets _ _ _ _ _ _) (done .step .given .1) (read .read-root .ensures .0)) (c .if2 .taken)
 
 same-length-5 : tie.Need-same-length-5
 same-length-5 c = search needs
@@ -52,10 +53,10 @@ same-length-6 c = search needs
 
 returns-4 : tie.Need-returns-4
 returns-4 c =
-    let step = c .before .before in
-    let read-root = step .before .before .before .before .before .before in
-    let if1 = read-root .before .before .before in
-    whole.whole-good _ _ _ _ _ (if1 .if1 .left) (subst (Meets _ _ _ _ _ _) (step .step .given .1) (read-root .read-root .ensures .0)) (c .if2 .left)
+    let done = c .before .before in
+    let read = done .before .before .before .before .before .before in
+    let short = read .before .before .before in
+    whole.whole-good _ _ _ _ _ (short .if1 .left) (subst (Meets _ _ _ _ _ _) (done .step .given .1) (read .read-root .ensures .0)) (c .if2 .left)
 
 pub read-whole-spec : {M : Type 1} → statement M
 read-whole-spec =

@@ -21,7 +21,10 @@ returns : tie.Need-returns
 returns c = heads.head-array-is _ _ _ _ (c .before .match .keys1) (c .array .ensures .scans)
 
 returns-2 : tie.Need-returns-2
-returns-2 c = heads.head-object-is _ _ _ _ (tagged.container-object _ (c .before .before .before .pre .1) (c .before .match .rest .1)) (c .object .ensures .scans)
+returns-2 c =
+    let matched = c .before in
+    let start = matched .before .before in
+    heads.head-object-is _ _ _ _ (tagged.container-object _ (start .pre .1) (matched .match .rest .1)) (c .object .ensures .scans)
 
 pub head-spec : {M : Type 1} → statement M
 head-spec =

@@ -1,11 +1,17 @@
 -- `reader::key::read_key` meets its contract. Assumes nothing.
 use borrow.Author.Needs.{needs}
 use native.Mathlib.Omega.{arith}
-use mathlib.Core.Path.{sym, refl, _∙_}
+use Prim.Native.Nat.{ℕ, _+_}
+use mathlib.Core.Path.{_≡_, sym, refl, _∙_}
+use mathlib.Core.Bool.{true}
+use mathlib.Core.List.{List}
 use lib.ListN.{getD}
 use borrow.Author.Tests.{not-true, not-false}
+use Rattle.format.specs.Kind.{isTagOf, keyKinds, mayBeKey}
+use Rattle.format.specs.Read.{keyText}
+use Rattle.scanner.specs.Scans.{Scans}
 use Rattle.scanner.proofs.Numbers.{found-of}
-use Rattle.reader.specs.Texts.{isArrayTag}
+use Rattle.reader.specs.Texts.{kindFor, isArrayTag, keyTold}
 use Rattle.key_filter.proofs.Marking.{grows-none}
 use Rattle.reader.proofs.Tagged as tagged
 use Rattle.reader.proofs.Leaves.{refused-is}
@@ -14,8 +20,44 @@ use Rattle.reader.proofs.KeySteps as steps
 use Rattle.reader.proofs.key.read_key.Statement.{statement}
 use Rattle.reader.proofs.key.read_key.Tie as tie
 
+-- what holds once the text behind a tag is scanned
+module _ (scanned : tie.After-key) where
+  abbrev room : tie.Else3
+  room = scanned .before
+
+  abbrev allowed : tie.Else2
+  allowed = room .before
+
+  abbrev inside : tie.Else1
+  inside = allowed .before .before .before
+
+  abbrev start : tie.Start
+  start = inside .before .before .before .before
+
+  abbrev source : List ℕ
+  source = start .args .source .now
+
+  abbrev at : ℕ
+  at = start .args .cursor .at
+
+  abbrev tag : ℕ
+  tag = getD source at 0
+
+  may : isTagOf (keyKinds (isArrayTag (start .args .container))) tag ≡ true
+  may = sym (allowed .before .key-allowed .ensures) ∙ not-false _ (allowed .if2 .left)
+
+  any : mayBeKey tag ≡ true
+  any = tagged.key-any (isArrayTag (start .args .container)) tag may
+
+  told : Scans (keyText (kindFor tag)) (keyTold (at + 1)) source (at + 1) (scanned .key .result)
+  told = key-behind _ _ _ _ any (scanned .key .ensures .scans)
+
 returns : tie.Need-returns
-returns c = (λ earlier e. steps.key-end _ _ _ _ earlier (c .if1 .taken) (c .before .before .before .before .pre .0 .inside), steps.none-more _ _ _ _ _ _ _ _ _ _ _ refl (grows-none _))
+returns c =
+    let start = c .before .before .before .before in (
+      λ earlier e. steps.key-end _ _ _ _ earlier (c .if1 .taken) (start .pre .0 .inside),
+      steps.none-more _ _ _ _ _ _ _ _ _ _ _ refl (grows-none _),
+    )
 
 shared-slice-read-tag : tie.Need-shared-slice-read-tag
 shared-slice-read-tag c = search needs
@@ -25,16 +67,21 @@ key-allowed-requires c κs = search needs
 
 returns-2 : tie.Need-returns-2
 returns-2 c =
-    let key-allowed = c .before in
-    let if1 = key-allowed .before .before in
-    (λ earlier e. steps.key-other _ _ _ _ earlier _ (if1 .if1 .left) refl (sym (key-allowed .key-allowed .ensures) ∙ not-true _ (c .if2 .taken)), steps.none-more _ _ _ _ _ _ _ _ _ _ _ refl (grows-none _))
+    let asked = c .before in
+    let inside = asked .before .before in (
+      λ earlier e. steps.key-other _ _ _ _ earlier _ (inside .if1 .left) refl (sym (asked .key-allowed .ensures) ∙ not-true _ (c .if2 .taken)),
+      steps.none-more _ _ _ _ _ _ _ _ _ _ _ refl (grows-none _),
+    )
 
 returns-3 : tie.Need-returns-3
 returns-3 c =
-    let if2 = c .before in
-    let key-allowed = if2 .before in
-    let if1 = key-allowed .before .before in
-    (λ earlier e. steps.key-full _ _ _ _ earlier _ (if1 .if1 .left) refl (sym (key-allowed .key-allowed .ensures) ∙ not-false _ (if2 .if2 .left)) (c .if3 .taken), steps.none-more _ _ _ _ _ _ _ _ _ _ _ refl (grows-none _))
+    let allowed = c .before in
+    let asked = allowed .before in
+    let inside = asked .before .before in
+    let may = sym (asked .key-allowed .ensures) ∙ not-false _ (allowed .if2 .left) in (
+      λ earlier e. steps.key-full _ _ _ _ earlier _ (inside .if1 .left) refl may (c .if3 .taken),
+      steps.none-more _ _ _ _ _ _ _ _ _ _ _ refl (grows-none _),
+    )
 
 add-key : tie.Need-add-key
 add-key c = search needs
@@ -53,25 +100,20 @@ refused-requires c κs = search needs
 
 returns-4 : tie.Need-returns-4
 returns-4 c =
-    let not = c .before in
-    let text = not .before .before in
-    let room = text .before in
-    let may = room .before in
-    let kind = may .before in
-    let here = kind .before .before in
-    let start = here .before .before .before .before in
-    let args = start .args in
-    let allowed = sym (kind .key-allowed .ensures) ∙ not-false _ (may .if2 .left) in
-    let told = key-behind _ _ _ _ (tagged.key-any (isArrayTag (args .container)) (getD (args .source .now) (args .cursor .at) 0) allowed) (text .key .ensures .scans) in (
-      λ earlier e. steps.key-not _ _ _ _ earlier _ (here .if1 .left) refl allowed (room .if3 .left) (args .table .now) (args .table .now) _ _ _ told (not .enum-told .given .1) (c .refused .ensures),
-      steps.none-more _ _ _ _ _ _ _ _ _ _ _ (refused-is _ _ _ _ (c .refused .ensures) (not .enum-told .given .1)) (grows-none _),
+    let failed = c .before in
+    let scanned = failed .before .before in
+    let table = start scanned .args .table .now in (
+      λ earlier e.
+          steps.key-not _ _ _ _ earlier _ (inside scanned .if1 .left) refl (may scanned) (room scanned .if3 .left)
+          table table _ _ _ (told scanned) (failed .enum-told .given .1) (c .refused .ensures),
+      steps.none-more _ _ _ _ _ _ _ _ _ _ _ (refused-is _ _ _ _ (c .refused .ensures) (failed .enum-told .given .1)) (grows-none _),
     )
 
 cast-t20 : tie.Need-cast-t20
 cast-t20 c =
-    let bytes = c .before .before .before .before .before .before .before in
-    let start = bytes .before .before .before .before .before in
-    omega (arith, bytes .shared-slice-known2 .given (start .args .cursor .at))
+    let known = c .before .before .before .before .before .before .before in
+    let start = known .before .before .before .before .before in
+    omega (arith, known .shared-slice-known2 .given (start .args .cursor .at))
 
 key-seen-requires : tie.Need-key-seen-requires
 key-seen-requires c κs =
@@ -86,23 +128,15 @@ same-length-2 c = search needs
 
 returns-5 : tie.Need-returns-5
 returns-5 c =
-    let test = c .before .before .before in
-    let found = test .before .before .before .before in
-    let text = found .before .before in
-    let room = text .before in
-    let may = room .before in
-    let kind = may .before in
-    let here = kind .before .before in
-    let start = here .before .before .before .before in
-    let args = start .args in
-    let allowed = sym (kind .key-allowed .ensures) ∙ not-false _ (may .if2 .left) in
-    let told = key-behind _ _ _ _ (tagged.key-any (isArrayTag (args .container)) (getD (args .source .now) (args .cursor .at) 0) allowed) (text .key .ensures .scans) in
-    let is = found-of told (found .scan .given .1) in (
+    let tested = c .before .before .before in
+    let found = tested .before .before .before .before in
+    let scanned = found .before .before in
+    let is = found-of (told scanned) (found .scan .given .1) in
+    let held = steps.held-of _ _ _ (any scanned) (inside scanned .if1 .left) refl _ is in (
       λ earlier e.
-          let held = steps.key-held _ _ _ (args .cursor) earlier _ (here .if1 .left) refl allowed (room .if3 .left) _ is in
-          let twice = e .same _ ∙ sym (test .key-seen .ensures .answer _ _ held (e .chain) (e .known)) ∙ c .if4 .taken in
-          steps.key-twice _ _ _ _ earlier _ (here .if1 .left) refl allowed (room .if3 .left) _ is twice,
-      steps.none-more _ _ _ _ _ _ _ _ _ _ _ refl (test .key-seen .ensures .grows),
+          let twice = e .same _ ∙ sym (tested .key-seen .ensures .answer _ _ held (e .chain) (e .known)) ∙ c .if4 .taken in
+          steps.key-twice _ _ _ _ earlier _ (inside scanned .if1 .left) refl (may scanned) (room scanned .if3 .left) _ is twice,
+      steps.none-more _ _ _ _ _ _ _ _ _ _ _ refl (tested .key-seen .ensures .grows),
     )
 
 place-requires : tie.Need-place-requires
@@ -118,23 +152,17 @@ returns-6 : tie.Need-returns-6
 returns-6 c =
     let placed = c .before .before in
     let new = placed .before .before in
-    let test = new .before .before .before in
-    let found = test .before .before .before .before in
-    let text = found .before .before in
-    let room = text .before in
-    let may = room .before in
-    let kind = may .before in
-    let here = kind .before .before in
-    let start = here .before .before .before .before in
-    let args = start .args in
-    let allowed = sym (kind .key-allowed .ensures) ∙ not-false _ (may .if2 .left) in
-    let told = key-behind _ _ _ _ (tagged.key-any (isArrayTag (args .container)) (getD (args .source .now) (args .cursor .at) 0) allowed) (text .key .ensures .scans) in
-    let is = found-of told (found .scan .given .1) in (
+    let tested = new .before .before .before in
+    let found = tested .before .before .before .before in
+    let scanned = found .before .before in
+    let fit = start scanned .pre .0 in
+    let is = found-of (told scanned) (found .scan .given .1) in
+    let held = steps.held-of _ _ _ (any scanned) (inside scanned .if1 .left) refl _ is in (
       λ earlier e.
-          let held = steps.key-held _ _ _ (args .cursor) earlier _ (here .if1 .left) refl allowed (room .if3 .left) _ is in
-          let once = e .same _ ∙ sym (test .key-seen .ensures .answer _ _ held (e .chain) (e .known)) ∙ new .if4 .left in
-          steps.key-good _ _ _ _ earlier _ (here .if1 .left) refl allowed (room .if3 .left) _ is _ _ _ (start .pre .0) once (placed .place .ensures),
-      steps.one-more _ _ _ _ _ _ _ _ _ _ _ _ _ _ (start .pre .0) (room .if3 .left) (test .key-seen .ensures) (placed .place .ensures),
+          let once = e .same _ ∙ sym (tested .key-seen .ensures .answer _ _ held (e .chain) (e .known)) ∙ new .if4 .left in
+          steps.key-good _ _ _ _ earlier _ (inside scanned .if1 .left) refl (may scanned) (room scanned .if3 .left) _ is
+          _ _ _ fit once (placed .place .ensures),
+      steps.one-more _ _ _ _ _ _ _ _ _ _ _ _ _ _ fit (room scanned .if3 .left) (tested .key-seen .ensures) (placed .place .ensures),
     )
 
 pub read-key-spec : {M : Type 1} → statement M

@@ -17,9 +17,12 @@ refused-requires c κs = search needs
 
 returns : tie.Need-returns
 returns c =
-    let start = c .before .before .before .before .before in
+    let failed = c .before in
+    let start = failed .before .before .before .before in
+    let table = start .args .table .now in
     let is-scalar = start .pre .1 .0 .2 in
-    λ inner. leaves.scalar-not _ _ _ _ is-scalar inner (start .args .table .now) (start .args .table .now) _ _ _ (scalar-behind is-scalar (start .pre .1 .1 .scans)) (c .before .enum-told .given .1) (c .refused .ensures)
+    let told = scalar-behind is-scalar (start .pre .1 .1 .scans) in
+    λ inner. leaves.scalar-not _ _ _ _ is-scalar inner table table _ _ _ told (failed .enum-told .given .1) (c .refused .ensures)
 
 place-requires : tie.Need-place-requires
 place-requires c κs = search needs
@@ -29,11 +32,12 @@ same-length c = search needs
 
 returns-2 : tie.Need-returns-2
 returns-2 c =
-    let known = c .before .before .before .before .before in
-    let start = known .before .before .before .before in
+    let placed = c .before .before in
+    let found = placed .before .before .before in
+    let start = found .before .before .before .before in
     let is-scalar = start .pre .1 .0 .2 in
-    λ inner.
-    leaves.scalar-good _ _ _ _ is-scalar inner _ _ _ _ (start .pre .0) (start .pre .1 .0 .1) (found-of (scalar-behind is-scalar (start .pre .1 .1 .scans)) (known .scan .given .1)) (c .before .before .place .ensures)
+    let told = scalar-behind is-scalar (start .pre .1 .1 .scans) in
+    λ inner. leaves.scalar-good _ _ _ _ is-scalar inner _ _ _ _ (start .pre .0) (start .pre .1 .0 .1) (found-of told (found .scan .given .1)) (placed .place .ensures)
 
 pub put-scalar-spec : {M : Type 1} → statement M
 put-scalar-spec =

@@ -22,13 +22,30 @@ refused-requires : tie.Need-refused-requires
 refused-requires c κs = search needs
 
 returns : tie.Need-returns
-returns c = λ inner. leaves.reference-not _ _ _ _ (c .before .before .before .before .before .before .pre .1 .2) inner (c .before .before .before .before .before .before .args .table .now) (c .before .before .before .before .before .before .args .table .now) _ _ _ (c .before .before .before .named .ensures .scans) (c .before .enum-told .given .1) (c .refused .ensures)
+returns c =
+    let failed = c .before in
+    let scanned = failed .before .before in
+    let start = scanned .before .before .before in
+    let table = start .args .table .now in
+    λ inner.
+    leaves.reference-not _ _ _ _ (start .pre .1 .2) inner table table _ _ _ (scanned .named .ensures .scans) (failed .enum-told .given .1) (c .refused .ensures)
 
 returns-2 : tie.Need-returns-2
-returns-2 c = λ inner. leaves.reference-zero _ _ _ _ (c .before .before .before .before .before .before .before .pre .1 .2) inner _ (found-of (c .before .before .before .before .named .ensures .scans) (c .before .before .scan .given .1)) (c .if1 .taken)
+returns-2 c =
+    let found = c .before .before in
+    let scanned = found .before .before in
+    let start = scanned .before .before .before in
+    let is = found-of (scanned .named .ensures .scans) (found .scan .given .1) in
+    λ inner. leaves.reference-zero _ _ _ _ (start .pre .1 .2) inner _ is (c .if1 .taken)
 
 returns-3 : tie.Need-returns-3
-returns-3 c = λ inner. leaves.reference-above _ _ _ _ (c .before .before .before .before .before .before .before .before .pre .1 .2) inner _ (found-of (c .before .before .before .before .before .named .ensures .scans) (c .before .before .before .scan .given .1)) (c .before .if1 .left) (c .if2 .taken)
+returns-3 c =
+    let some = c .before in
+    let found = some .before .before in
+    let scanned = found .before .before in
+    let start = scanned .before .before .before in
+    let is = found-of (scanned .named .ensures .scans) (found .scan .given .1) in
+    λ inner. leaves.reference-above _ _ _ _ (start .pre .1 .2) inner _ is (some .if1 .left) (c .if2 .taken)
 
 node-of-requires : tie.Need-node-of-requires
 node-of-requires c κs = search needs
@@ -43,7 +60,19 @@ same-length : tie.Need-same-length
 same-length c = search needs
 
 returns-4 : tie.Need-returns-4
-returns-4 c = λ inner. leaves.reference-good _ _ _ _ (c .before .before .before .before .before .before .before .before .before .before .before .before .before .before .before .pre .1 .2) inner _ (found-of (c .before .before .before .before .before .before .before .before .before .before .before .before .named .ensures .scans) (c .before .before .before .before .before .before .before .before .before .before .scan .given .1)) (c .before .before .before .before .before .before .before .before .if1 .left) (c .before .before .before .before .before .before .before .if2 .left) _ _ _ _ _ _ (c .before .before .before .before .before .before .before .before .before .before .before .before .before .before .before .pre .0) (c .before .before .before .before .before .before .before .before .before .before .before .before .before .before .before .pre .1 .1) refl (c .before .before .before .has-ordinal .ensures) (c .before .before .before .before .before .node-of .ensures) (c .before .before .place .ensures)
+returns-4 c =
+    let placed = c .before .before in
+    let numbered = placed .before in
+    let resolved = numbered .before .before in
+    let taken = resolved .before .before in
+    let some = taken .before in
+    let found = some .before .before in
+    let scanned = found .before .before in
+    let start = scanned .before .before .before in
+    let is = found-of (scanned .named .ensures .scans) (found .scan .given .1) in
+    λ inner.
+    leaves.reference-good _ _ _ _ (start .pre .1 .2) inner _ is (some .if1 .left) (taken .if2 .left) _ _ _ _ _ _ (start .pre .0) (start .pre .1 .1) refl
+    (numbered .has-ordinal .ensures) (resolved .node-of .ensures) (placed .place .ensures)
 
 pub read-reference-spec : {M : Type 1} → statement M
 read-reference-spec =

@@ -28,9 +28,9 @@ same-length c = search needs
 
 returns-3 : tie.Need-returns-3
 returns-3 c =
-    let all = c .before .before .before in
-    let down = all .before .before .before in
-    keys.tested-new _ _ _ _ _ _ _ _ (down .before .rises .ensures) (down .if1 .left) _ _ (all .mark-keys .ensures) (not-true _ (c .if3 .taken))
+    let marked = c .before .before .before in
+    let down = marked .before .before .before in
+    keys.tested-new _ _ _ _ _ _ _ _ (down .before .rises .ensures) (down .if1 .left) _ _ (marked .mark-keys .ensures) (not-true _ (c .if3 .taken))
 
 walk-requires-2 : tie.Need-walk-requires-2
 walk-requires-2 c κs = search needs
@@ -40,9 +40,9 @@ same-length-2 c = search needs
 
 returns-4 : tie.Need-returns-4
 returns-4 c =
-    let all = c .before .before .before .before in
-    let down = all .before .before .before in
-    keys.tested-walk _ _ _ _ _ _ _ _ (down .before .rises .ensures) (down .if1 .left) _ _ (all .mark-keys .ensures) _ (c .walk2 .ensures)
+    let marked = c .before .before .before .before in
+    let down = marked .before .before .before in
+    keys.tested-walk _ _ _ _ _ _ _ _ (down .before .rises .ensures) (down .if1 .left) _ _ (marked .mark-keys .ensures) _ (c .walk2 .ensures)
 
 pub key-seen-spec : {M : Type 1} → statement M
 key-seen-spec =

@@ -34,45 +34,47 @@ same-length c = search needs
 
 returns : tie.Need-returns Inv-loop μ-loop
 returns c =
-    let entry = c .before .before .before in
-    let keyed = entry .before .before .before in
-    keys.marking-end (keyed .before .loop .inv) _ _ _ _ _ (keyed .key-or .ensures) (entry .before .before .hash .ensures) (entry .enter .ensures) (c .if1 .taken) _ (keyed .before .before .unmarked-from .ensures)
+    let entered = c .before .before .before in
+    let hashed = entered .before .before in
+    let keyed = hashed .before in
+    let looped = keyed .before in
+    keys.marking-end (looped .loop .inv) _ _ _ _ _ (keyed .key-or .ensures) (hashed .hash .ensures) (entered .enter .ensures) (c .if1 .taken)
+    _ (looped .before .unmarked-from .ensures)
+
+-- where a pair stands at i
+module _ (some : tie.Else1 Inv-loop μ-loop) where
+  abbrev looped : tie.At-loop Inv-loop μ-loop
+  looped = some .before .before .before .before .before .before .before
+
+  abbrev start : tie.Start Inv-loop μ-loop
+  start = looped .before .before .before .before .before
+
+  ends : keys.Ends (start .args .table .now) (looped .loop .i) (start .args .node)
+  ends = keys.walk-ends (looped .loop .inv .walk) (some .if1 .left)
 
 mul-i : tie.Need-mul-i Inv-loop μ-loop
-mul-i c =
-    let walk = c .before .before .before .before .before .before .before .loop .inv .walk in
-    omega (arith, keys.walk-on walk (c .if1 .left), keys.walk-in walk (c .if1 .left))
+mul-i c = omega (arith, ends c)
 
 add-i : tie.Need-add-i Inv-loop μ-loop
-add-i c =
-    let walk = c .before .before .before .before .before .before .before .loop .inv .walk in
-    omega (arith, keys.walk-on walk (c .if1 .left), keys.walk-in walk (c .if1 .left))
+add-i c = omega (arith, ends c)
 
 mul-i-2 : tie.Need-mul-i-2 Inv-loop μ-loop
-mul-i-2 c =
-    let walk = c .before .before .before .before .before .before .before .loop .inv .walk in
-    omega (arith, keys.walk-on walk (c .if1 .left), keys.walk-in walk (c .if1 .left))
+mul-i-2 c = omega (arith, ends c)
 
 shared-slice-read-i : tie.Need-shared-slice-read-i Inv-loop μ-loop
-shared-slice-read-i c =
-    let test = c .before in
-    let loop = test .before .before .before .before .before .before .before in
-    let start = loop .before .before .before .before .before in
-    let walk = loop .loop .inv .walk in
-    omega (arith, keys.walk-on walk (test .if1 .left), keys.walk-in walk (test .if1 .left), start .pre .0)
+shared-slice-read-i c = omega (arith, ends (c .before), start (c .before) .pre .0)
 
 loop-less : tie.Need-loop-less Inv-loop μ-loop
-loop-less c =
-    let test = c .before in
-    let walk = test .before .before .before .before .before .before .before .loop .inv .walk in
-    omega (arith, keys.walk-on walk (test .if1 .left), keys.walk-in walk (test .if1 .left))
+loop-less c = omega (arith, ends (c .before))
 
 loop-again : tie.Need-loop-again Inv-loop μ-loop
 loop-again c =
-    let test = c .before in
-    let entry = test .before .before .before in
-    let keyed = entry .before .before .before in
-    keys.marking-more (keyed .before .loop .inv) _ _ _ _ _ (keyed .key-or .ensures) (entry .before .before .hash .ensures) (entry .enter .ensures) (test .if1 .left) (entry .enter .kept .0)
+    let some = c .before in
+    let entered = some .before .before .before in
+    let hashed = entered .before .before in
+    let keyed = hashed .before in
+    keys.marking-more (looped some .loop .inv) _ _ _ _ _ (keyed .key-or .ensures) (hashed .hash .ensures) (entered .enter .ensures) (some .if1 .left)
+    (entered .enter .kept .0)
 
 pub mark-keys-spec : {M : Type 1} → statement M
 mark-keys-spec =

@@ -1,9 +1,9 @@
 -- `reader::seen::walk` meets its contract. Assumes nothing.
 use Prim.Native.Nat.{_-_}
 use native.Mathlib.Omega.{arith}
-use mathlib.Core.Path.{ap, _∙_}
+use mathlib.Core.Path.{_≡_, ap, _∙_}
 use borrow.Author.Needs.{needs}
-use Rattle.keys.specs.KeyWords.{sameWords}
+use Rattle.keys.specs.KeyWords.{keyWordsAt, sameWords}
 use Rattle.reader.proofs.KeyLaws as keys
 use Rattle.reader.proofs.seen.walk.Statement.{statement}
 use Rattle.reader.proofs.seen.walk.Tie as tie
@@ -17,6 +17,27 @@ abbrev μ-loop : tie.MeasureT-loop
 loop-holds : tie.Need-loop-holds Inv-loop μ-loop
 loop-holds c = keys.left-none (c .before .before .pre .1)
 
+-- where a pair stands at i
+module _ (more : tie.In-loop Inv-loop μ-loop) where
+  abbrev looped : tie.At-loop Inv-loop μ-loop
+  looped = more .before
+
+  abbrev start : tie.Start Inv-loop μ-loop
+  start = looped .before .before .before
+
+  ends : keys.Ends (start .args .table .now) (looped .loop .i) (start .args .node)
+  ends = keys.walk-ends (looped .loop .inv .walk) (more .loop-test .taken)
+
+-- whether its key is the new one
+module _ (compared : tie.After-same-key Inv-loop μ-loop) where
+  abbrev pair : tie.In-loop Inv-loop μ-loop
+  pair = compared .before .before
+
+  same : compared .same-key .result ≡ sameWords (start pair .args .source .now) (start pair .args .key) (start pair .args .source .now)
+      (keyWordsAt (start pair .args .table .now) (looped pair .loop .i))
+  same = compared .same-key .ensures
+      ∙ ap (sameWords _ _ _) (compared .before .key-at .ensures ∙ keys.ends-key _ _ _ (ends pair) (start pair .pre .0))
+
 key-at-requires : tie.Need-key-at-requires Inv-loop μ-loop
 key-at-requires c κs = search needs
 
@@ -25,52 +46,31 @@ same-key-requires c κs = search needs
 
 returns : tie.Need-returns Inv-loop μ-loop
 returns c =
-    let same-key = c .before in
-    let key-at = same-key .before in
-    let loop-test = key-at .before in
-    let loop = loop-test .before in
-    let is = key-at .key-at .ensures ∙ keys.walk-key (loop .loop .inv .walk) (loop-test .loop-test .taken) (loop .before .before .before .pre .0) in
-    keys.left-found (loop .loop .inv) (loop-test .loop-test .taken) _ (same-key .same-key .ensures ∙ ap (sameWords _ _ _) is) (c .if1 .taken)
+    let compared = c .before in
+    let more = compared .before .before in
+    keys.left-found (looped more .loop .inv) (more .loop-test .taken) _ (same compared) (c .if1 .taken)
 
 mul-i : tie.Need-mul-i Inv-loop μ-loop
-mul-i c =
-    let loop-test = c .before .before .before in
-    let walk = loop-test .before .loop .inv .walk in
-    omega (arith, keys.walk-on walk (loop-test .loop-test .taken), keys.walk-in walk (loop-test .loop-test .taken))
+mul-i c = omega (arith, ends (c .before .before .before))
 
 add-i : tie.Need-add-i Inv-loop μ-loop
-add-i c =
-    let loop-test = c .before .before .before in
-    let walk = loop-test .before .loop .inv .walk in
-    omega (arith, keys.walk-on walk (loop-test .loop-test .taken), keys.walk-in walk (loop-test .loop-test .taken))
+add-i c = omega (arith, ends (c .before .before .before))
 
 mul-i-2 : tie.Need-mul-i-2 Inv-loop μ-loop
-mul-i-2 c =
-    let loop-test = c .before .before .before in
-    let walk = loop-test .before .loop .inv .walk in
-    omega (arith, keys.walk-on walk (loop-test .loop-test .taken), keys.walk-in walk (loop-test .loop-test .taken))
+mul-i-2 c = omega (arith, ends (c .before .before .before))
 
 shared-slice-read-i : tie.Need-shared-slice-read-i Inv-loop μ-loop
-shared-slice-read-i c =
-    let loop-test = c .before .before .before .before in
-    let walk = loop-test .before .loop .inv .walk in
-    omega (arith, keys.walk-on walk (loop-test .loop-test .taken), keys.walk-in walk (loop-test .loop-test .taken))
+shared-slice-read-i c = omega (arith, ends (c .before .before .before .before))
 
 loop-less : tie.Need-loop-less Inv-loop μ-loop
-loop-less c =
-    let loop-test = c .before .before .before .before in
-    let walk = loop-test .before .loop .inv .walk in
-    omega (arith, keys.walk-on walk (loop-test .loop-test .taken), keys.walk-in walk (loop-test .loop-test .taken))
+loop-less c = omega (arith, ends (c .before .before .before .before))
 
 loop-again : tie.Need-loop-again Inv-loop μ-loop
 loop-again c =
-    let if1 = c .before in
-    let same-key = if1 .before in
-    let key-at = same-key .before in
-    let loop-test = key-at .before in
-    let loop = loop-test .before in
-    let is = key-at .key-at .ensures ∙ keys.walk-key (loop .loop .inv .walk) (loop-test .loop-test .taken) (loop .before .before .before .pre .0) in
-    keys.left-more (loop .loop .inv) (loop-test .loop-test .taken) _ (same-key .same-key .ensures ∙ ap (sameWords _ _ _) is) (if1 .if1 .left)
+    let other = c .before in
+    let compared = other .before in
+    let more = compared .before .before in
+    keys.left-more (looped more .loop .inv) (more .loop-test .taken) _ (same compared) (other .if1 .left)
 
 returns-2 : tie.Need-returns-2 Inv-loop μ-loop
 returns-2 c = keys.left-end (c .before .loop .inv) (c .loop-test .left)

@@ -21,7 +21,12 @@ same-length : tie.Need-same-length
 same-length c = search needs
 
 returns : tie.Need-returns
-returns c = placing.placed _ _ _ _ _ (c .before .before .before .before .before .before .args .taken) _ _ (⊎-elim (λ p. inl (p .0 .taken, p .1, p .2)) (λ p. inr (p .0 .left, p .1, p .2)) (c .before .before .before .before .if1 .came)) (c .before .before .put-node .ensures)
+returns c =
+    let put = c .before .before in
+    let numbered = put .before .before in
+    let start = numbered .before .before in
+    placing.placed _ _ _ _ _ (start .args .taken) _ _
+    (⊎-elim (λ p. inl (p .0 .taken, p .1, p .2)) (λ p. inr (p .0 .left, p .1, p .2)) (numbered .if1 .came)) (put .put-node .ensures)
 
 pub place-spec : {M : Type 1} → statement M
 place-spec =

@@ -10,23 +10,23 @@ use Rattle.format.specs.Bytes.{byte}
 use Rattle.bytes_at.proofs.BytesAt.{byte-there}
 use Rattle.scanner.proofs.Numbers.{found-of}
 use Rattle.reader.specs.declared.cursor.Cursor.{Cursor}
-use Rattle.reader.specs.Steps.{Fit, Meets, MeetsPairs, MeetsKey, GateAt}
+use Rattle.reader.specs.Steps.{Fit, Meets, MeetsPairs, MeetsKey, IsOpen, GateAt}
 use Rattle.key_filter.proofs.Marking.{grows-none, grows-on}
 use Rattle.reader.proofs.Tagged as tagged
 use Rattle.reader.proofs.Leaves as leaves
 use Rattle.reader.proofs.ContainerSteps as containers
 use Rattle.reader.proofs.PairSteps as pairs
-use borrow.Fn.Kinds.{In}
+use borrow.Fn.Kinds.{In, Out}
 use borrow.Fn.PlainCycle.{Measures, is, falls, and}
 use Rattle.reader.proofs.value.read_container.Reads as read-container
-use Rattle.reader.proofs.value.read_container.Kinds as read-container-kinds
-use Rattle.reader.proofs.value.+read_container+read_pairs+read_value.Lts-read_container as read-container-lts
+use Rattle.reader.proofs.value.read_container.Kinds as container-kinds
+use Rattle.reader.proofs.value.+read_container+read_pairs+read_value.Lts-read_container as container-lts
 use Rattle.reader.proofs.value.read_pairs.Reads as read-pairs
-use Rattle.reader.proofs.value.read_pairs.Kinds as read-pairs-kinds
-use Rattle.reader.proofs.value.+read_container+read_pairs+read_value.Lts-read_pairs as read-pairs-lts
+use Rattle.reader.proofs.value.read_pairs.Kinds as pairs-kinds
+use Rattle.reader.proofs.value.+read_container+read_pairs+read_value.Lts-read_pairs as pairs-lts
 use Rattle.reader.proofs.value.read_value.Reads as read-value
-use Rattle.reader.proofs.value.read_value.Kinds as read-value-kinds
-use Rattle.reader.proofs.value.+read_container+read_pairs+read_value.Lts-read_value as read-value-lts
+use Rattle.reader.proofs.value.read_value.Kinds as value-kinds
+use Rattle.reader.proofs.value.+read_container+read_pairs+read_value.Lts-read_value as value-lts
 use Rattle.reader.proofs.cursor.again.Reads as again-reads
 use Rattle.reader.proofs.cursor.anew.Reads as anew-reads
 use Rattle.reader.proofs.cursor.check_tag.Reads as check-tag-reads
@@ -43,305 +43,428 @@ use Rattle.bytes_at.proofs.byte_is.Reads as byte-is-reads
 use Rattle.reader.proofs.value.+read_container+read_pairs+read_value.{statement}
 use Rattle.reader.proofs.value.+read_container+read_pairs+read_value.Tie.{close}
 
-abbrev μ-read-container : Measures 3 read-container-kinds.ps ℕ
-μ-read-container κs a = 3 * (length (a .0 .now) - a .1 .1 .1 .1 .0 .at)
+abbrev μ-container : Measures 3 container-kinds.ps ℕ
+μ-container κs a = 3 * (length (a .0 .now) - a .1 .1 .1 .1 .0 .at)
 
-abbrev μ-read-pairs : Measures 3 read-pairs-kinds.ps ℕ
-μ-read-pairs κs a = 3 * (length (a .0 .now) - a .1 .1 .1 .1 .1 .0 .at) + 2
+abbrev μ-pairs : Measures 3 pairs-kinds.ps ℕ
+μ-pairs κs a = 3 * (length (a .0 .now) - a .1 .1 .1 .1 .1 .0 .at) + 2
 
-abbrev μ-read-value : Measures 3 read-value-kinds.ps ℕ
-μ-read-value κs a = 3 * (length (a .0 .now) - a .1 .1 .1 .1 .0 .at) + 1
+abbrev μ-value : Measures 3 value-kinds.ps ℕ
+μ-value κs a = 3 * (length (a .0 .now) - a .1 .1 .1 .1 .0 .at) + 1
 
-abbrev read-container-at : ℕ → In 3 read-container-kinds.ps
-read-container-at t =
-    and
-    3
-    read-container-kinds.ps
-    (is 3 read-container-kinds.ps μ-read-container t)
-    read-container.Pre
+-- what each is given at the measure t, and what a call of it asks below t
+abbrev container-at : ℕ → In 3 container-kinds.ps
+container-at t = and 3 container-kinds.ps (is 3 container-kinds.ps μ-container t) read-container.Pre
 
-abbrev read-container-below : ℕ → In 3 read-container-kinds.ps
-read-container-below t =
-    and
-    3
-    read-container-kinds.ps
-    (falls 3 read-container-kinds.ps _<_ μ-read-container t)
-    read-container.Pre
+abbrev container-below : ℕ → In 3 container-kinds.ps
+container-below t = and 3 container-kinds.ps (falls 3 container-kinds.ps _<_ μ-container t) read-container.Pre
 
-abbrev read-pairs-at : ℕ → In 3 read-pairs-kinds.ps
-read-pairs-at t =
-    and 3 read-pairs-kinds.ps (is 3 read-pairs-kinds.ps μ-read-pairs t) read-pairs.Pre
+abbrev pairs-at : ℕ → In 3 pairs-kinds.ps
+pairs-at t = and 3 pairs-kinds.ps (is 3 pairs-kinds.ps μ-pairs t) read-pairs.Pre
 
-abbrev read-pairs-below : ℕ → In 3 read-pairs-kinds.ps
-read-pairs-below t =
-    and 3 read-pairs-kinds.ps (falls 3 read-pairs-kinds.ps _<_ μ-read-pairs t) read-pairs.Pre
+abbrev pairs-below : ℕ → In 3 pairs-kinds.ps
+pairs-below t = and 3 pairs-kinds.ps (falls 3 pairs-kinds.ps _<_ μ-pairs t) read-pairs.Pre
 
-abbrev read-value-at : ℕ → In 3 read-value-kinds.ps
-read-value-at t =
-    and 3 read-value-kinds.ps (is 3 read-value-kinds.ps μ-read-value t) read-value.Pre
+abbrev value-at : ℕ → In 3 value-kinds.ps
+value-at t = and 3 value-kinds.ps (is 3 value-kinds.ps μ-value t) read-value.Pre
 
-abbrev read-value-below : ℕ → In 3 read-value-kinds.ps
-read-value-below t =
-    and 3 read-value-kinds.ps (falls 3 read-value-kinds.ps _<_ μ-read-value t) read-value.Pre
+abbrev value-below : ℕ → In 3 value-kinds.ps
+value-below t = and 3 value-kinds.ps (falls 3 value-kinds.ps _<_ μ-value t) read-value.Pre
 
-abbrev read-pairs-Inv-loop : read-pairs-lts.InvT-loop
-read-pairs-Inv-loop source table₀ filter₀ capacity container count first cursor₀ more₀ seen₀ table filter cursor more seen = pairs.Run source table₀ table filter₀ filter capacity container count cursor₀ cursor more seen
+-- ---- `read_container`
 
-abbrev read-pairs-μ-loop : read-pairs-lts.MeasureT-loop
-read-pairs-μ-loop source table₀ filter₀ capacity container count first cursor₀ more₀ seen₀ table filter cursor more seen = more
+abbrev container-calls : ℕ → container-lts.Claims
+container-calls t = (
+  head-reads.Asked,
+  head-reads.Learnt,
+  refused-reads.Asked,
+  refused-reads.Learnt,
+  enter-reads.Asked,
+  enter-reads.Learnt,
+  pairs-below t,
+  read-pairs.Post,
+  byte-is-reads.Asked,
+  byte-is-reads.Learnt,
+  put-end-reads.Asked,
+  put-end-reads.Learnt,
+)
+
+-- a need of it at the measure t
+abbrev Container : ℕ → (container-lts.Claims → In 3 container-kinds.ps → Out 3 container-kinds.ps container-kinds.r → Type 0) → Type 0
+Container t Need = Need (container-calls t) (container-at t) read-container.Post
+
+container-head-requires : (t : ℕ) → Container t container-lts.Need-head-requires
+container-head-requires t c κs = let given = c .before .before .before .pre .1 .1 in (given .0, given .3)
+
+container-returns : (t : ℕ) → Container t container-lts.Need-returns
+container-returns t c =
+    let failed = c .before in
+    let headed = failed .before .before in
+    let start = headed .before .before .before .before in
+    let table = start .args .table .now in (
+      containers.head-not _ _ _ _ (start .pre .1 .1 .3) table table _ _ _ (headed .head .ensures) (failed .enum-told .given .1) (c .refused .ensures),
+      grows-none _,
+    )
+
+container-enter-requires : (t : ℕ) → Container t container-lts.Need-enter-requires
+container-enter-requires t c κs =
+    let start = c .before .before .before .before .before .before .before .before in
+    let fit = start .pre .1 .0 in
+    let given = start .pre .1 .1 in
+    (omega arith, fit .ordinal, given .2)
+
+container-read-pairs-requires : (t : ℕ) → Container t container-lts.Need-read-pairs-requires
+container-read-pairs-requires t c κs =
+    let entered = c .before .before .before .before in
+    let found = entered .before .before .before in
+    let headed = found .before .before in
+    let start = headed .before .before .before .before in
+    let fit = start .pre .1 .0 in
+    let given = start .pre .1 .1 in
+    let is = found-of (headed .head .ensures) (found .scan .given .1) in
+    let first = entered .enter .ensures .cursor in (
+      omega (arith, ap (λ (i : Cursor). i .at) first, is .on, is .inside),
+      containers.first-fit _ _ _ _ _ _ _ first (is .inside) fit (given .1) (entered .enter .kept .0),
+    )
+
+container-returns-2 : (t : ℕ) → Container t container-lts.Need-returns-2
+container-returns-2 t c =
+    let called = c .before .before .before .before .before .before in
+    let entered = called .before .before .before .before .before in
+    let found = entered .before .before .before in
+    let headed = found .before .before in
+    let start = headed .before .before .before .before in
+    let is = found-of (headed .head .ensures) (found .scan .given .1) in
+    let refused = subst (MeetsPairs _ _ _ _ _ _) (c .enum-told2 .given .1) (called .read-pairs .ensures .0) in (
+      leaves.meets-bad _ _ _ _ _ _ _ _ _ (c .enum-told2 .given .1)
+          (containers.pairs-refused _ _ _ _ (start .pre .1 .1 .3) _ is _ (entered .enter .ensures .cursor) _ _ refused),
+      called .read-pairs .ensures .1,
+    )
+
+container-returns-3 : (t : ℕ) → Container t container-lts.Need-returns-3
+container-returns-3 t c =
+    let compared = c .before in
+    let read = compared .before .before in
+    let called = read .before .before .before .before .before .before in
+    let entered = called .before .before .before .before .before in
+    let found = entered .before .before .before in
+    let headed = found .before .before in
+    let start = headed .before .before .before .before in
+    let table = start .args .table .now in
+    let is = found-of (headed .head .ensures) (found .scan .given .1) in
+    let pairs = subst (MeetsPairs _ _ _ _ _ _) (read .step .given .1) (called .read-pairs .ensures .0) in (
+      containers.brace-missing _ _ _ _ (start .pre .1 .1 .3) _ is table _ _ table (start .pre .1 .0) (start .pre .1 .1 .1) _ _ (entered .enter .ensures) pairs
+          (sym (compared .byte-is .ensures) ∙ not-true _ (c .if1 .taken)),
+      called .read-pairs .ensures .1,
+    )
+
+container-put-end-requires : (t : ℕ) → Container t container-lts.Need-put-end-requires
+container-put-end-requires t c κs =
+    let called = c .before .before .before .before .before .before .before .before .before .before in
+    let start = called .before .before .before .before .before .before .before .before .before .before .before .before .before .before in
+    let fit = start .pre .1 .0 in
+    let given = start .pre .1 .1 in
+    omega arith
+
+container-add-t26 : (t : ℕ) → Container t container-lts.Need-add-t26
+container-add-t26 t c =
+    let closed = c .before .before .before .before in
+    let compared = closed .before in
+    let called = compared .before .before .before .before .before .before .before .before in
+    let start = called .before .before .before .before .before .before .before .before .before .before .before .before .before .before in
+    let good = start .good .0 in
+    omega (arith, byte-there _ _ (byte "}") (lit< tt) (sym (compared .byte-is .ensures) ∙ not-false _ (closed .if1 .left)))
+
+container-returns-4 : (t : ℕ) → Container t container-lts.Need-returns-4
+container-returns-4 t c =
+    let ended = c .before .before in
+    let closed = ended .before .before in
+    let compared = closed .before in
+    let read = compared .before .before in
+    let called = read .before .before .before .before .before .before in
+    let entered = called .before .before .before .before .before in
+    let found = entered .before .before .before in
+    let headed = found .before .before in
+    let start = headed .before .before .before .before in
+    let table = start .args .table .now in
+    let is = found-of (headed .head .ensures) (found .scan .given .1) in
+    let pairs = subst (MeetsPairs _ _ _ _ _ _) (read .step .given .1) (called .read-pairs .ensures .0) in (
+      containers.container-good _ _ _ _ (start .pre .1 .1 .3) _ is table _ _ _ (start .pre .1 .0) (start .pre .1 .1 .1) _ _ (entered .enter .ensures) pairs
+          (sym (compared .byte-is .ensures) ∙ not-false _ (closed .if1 .left)) (called .read-pairs .kept .1 .0) (ended .put-end .ensures),
+      called .read-pairs .ensures .1,
+    )
+
+-- ---- `read_pairs`
+
+abbrev pairs-calls : ℕ → pairs-lts.Claims
+pairs-calls t = (
+  read-key-reads.Asked,
+  read-key-reads.Learnt,
+  key-at-reads.Asked,
+  key-at-reads.Learnt,
+  next-reads.Asked,
+  next-reads.Learnt,
+  value-below t,
+  read-value.Post,
+)
+
+abbrev pairs-Inv-loop : pairs-lts.InvT-loop
+pairs-Inv-loop source table₀ filter₀ capacity container count first cursor₀ more₀ seen₀ table filter cursor more seen =
+    pairs.Run source table₀ table filter₀ filter capacity container count cursor₀ cursor more seen
+
+abbrev pairs-μ-loop : pairs-lts.MeasureT-loop
+pairs-μ-loop source table₀ filter₀ capacity container count first cursor₀ more₀ seen₀ table filter cursor more seen = more
+
+-- a need of it at the measure t
+abbrev Pairs : ℕ
+    → (pairs-lts.Claims → In 3 pairs-kinds.ps → Out 3 pairs-kinds.ps pairs-kinds.r → pairs-lts.InvT-loop → pairs-lts.MeasureT-loop → Type 0) → Type 0
+Pairs t Need = Need (pairs-calls t) (pairs-at t) read-pairs.Post pairs-Inv-loop pairs-μ-loop
+
+pairs-loop-holds : (t : ℕ) → Pairs t pairs-lts.Need-loop-holds
+pairs-loop-holds t c = let start = c .before .before .before in pairs.run-start _ _ _ _ _ _ _ (start .pre .1)
+
+pairs-read-key-requires : (t : ℕ) → Pairs t pairs-lts.Need-read-key-requires
+pairs-read-key-requires t c κs = let run = c .before .before .before .loop .inv in (run .fit, pairs.run-walk run)
+
+pairs-same-length : (t : ℕ) → Pairs t pairs-lts.Need-same-length
+pairs-same-length t c =
+    let keyed = c .before .before .before .before .before .before in
+    let run = keyed .before .before .before .before .loop .inv in
+    omega (arith, run .long, keyed .read-key .kept .1 .0)
+
+pairs-same-length-2 : (t : ℕ) → Pairs t pairs-lts.Need-same-length-2
+pairs-same-length-2 t c =
+    let keyed = c .before .before .before .before .before .before in
+    let run = keyed .before .before .before .before .loop .inv in
+    omega (arith, run .filter-long, keyed .read-key .kept .1 .1 .0)
+
+pairs-returns : (t : ℕ) → Pairs t pairs-lts.Need-returns
+pairs-returns t c =
+    let keyed = c .before .before .before .before .before .before in
+    let more = keyed .before .before .before in
+    let run = more .before .loop .inv in
+    let refused = subst (MeetsKey _ _ _ _ _ _) (c .enum-told .given .1) (keyed .read-key .ensures .0 (run .earlier) (run .keys)) in (
+      pairs.pairs-bad _ _ _ _ _ _ _ _ _ (c .enum-told .given .1) (pairs.run-key-bad run (more .loop-test .taken) _ _ refused),
+      grows-on (run .grown) (keyed .read-key .ensures .1 .grows),
+    )
+
+pairs-read-value-requires : (t : ℕ) → Pairs t pairs-lts.Need-read-value-requires
+pairs-read-value-requires t c κs =
+    let told = c .before .before .before .before .before .before in
+    let keyed = told .before .before .before .before .before .before in
+    let more = keyed .before .before .before in
+    let run = more .before .loop .inv in
+    let key = subst (MeetsKey _ _ _ _ _ _) (told .key .given .1) (keyed .read-key .ensures .0 (run .earlier) (run .keys)) in
+    let behind = pairs.run-on run in
+    (omega (arith, key .on, key .inside), pairs.mid-fit run (more .loop-test .taken) _ _ key (keyed .read-key .kept .1 .0))
+
+pairs-same-length-3 : (t : ℕ) → Pairs t pairs-lts.Need-same-length-3
+pairs-same-length-3 t c =
+    let valued = c .before .before .before .before .before .before .before in
+    let keyed = valued .before .before .before .before .before .before .before .before .before .before .before .before .before in
+    let run = keyed .before .before .before .before .loop .inv in
+    omega (arith, run .long, keyed .read-key .kept .1 .0, valued .read-value .kept .1 .0)
+
+pairs-same-length-4 : (t : ℕ) → Pairs t pairs-lts.Need-same-length-4
+pairs-same-length-4 t c =
+    let valued = c .before .before .before .before .before .before .before in
+    let keyed = valued .before .before .before .before .before .before .before .before .before .before .before .before .before in
+    let run = keyed .before .before .before .before .loop .inv in
+    omega (arith, run .filter-long, keyed .read-key .kept .1 .1 .0, valued .read-value .kept .1 .1 .0)
+
+pairs-returns-2 : (t : ℕ) → Pairs t pairs-lts.Need-returns-2
+pairs-returns-2 t c =
+    let failed = c .before in
+    let valued = failed .before .before .before .before .before .before in
+    let told = valued .before .before .before .before .before .before .before in
+    let keyed = told .before .before .before .before .before .before in
+    let more = keyed .before .before .before in
+    let run = more .before .loop .inv in
+    let key = subst (MeetsKey _ _ _ _ _ _) (told .key .given .1) (keyed .read-key .ensures .0 (run .earlier) (run .keys)) in
+    let refused = subst (Meets _ _ _ _ _ _) (failed .value2 .given .1) (valued .read-value .ensures .0) in (
+      pairs.run-value-bad run (more .loop-test .taken) _ _ key _ _ refused,
+      grows-on (run .grown) (grows-on (keyed .read-key .ensures .1 .grows) (valued .read-value .ensures .1)),
+    )
+
+pairs-sub-more : (t : ℕ) → Pairs t pairs-lts.Need-sub-more
+pairs-sub-more t c =
+    let valued = c .before .before .before .before .before .before .before in
+    let keyed = valued .before .before .before .before .before .before .before .before .before .before .before .before .before in
+    omega (arith, keyed .before .before .before .loop-test .taken)
+
+pairs-loop-less : (t : ℕ) → Pairs t pairs-lts.Need-loop-less
+pairs-loop-less t c = omega (arith, pairs-sub-more t c)
+
+pairs-loop-again : (t : ℕ) → Pairs t pairs-lts.Need-loop-again
+pairs-loop-again t c =
+    let done = c .before in
+    let valued = done .before .before .before .before .before .before in
+    let known = valued .before .before .before in
+    let words = known .before in
+    let told = words .before .before .before in
+    let keyed = told .before .before .before .before .before .before in
+    let more = keyed .before .before .before in
+    let run = more .before .loop .inv in
+    let key = subst (MeetsKey _ _ _ _ _ _) (told .key .given .1) (keyed .read-key .ensures .0 (run .earlier) (run .keys)) in
+    let value = subst (Meets _ _ _ _ _ _) (done .value .given .1) (valued .read-value .ensures .0) in
+    pairs.run-more run (more .loop-test .taken) _ _ key _ _ value (keyed .read-key .kept .1 .0) (valued .read-value .kept .1 .0)
+    _ _ (keyed .read-key .kept .1 .1 .0) (valued .read-value .kept .1 .1 .0) _ (told .key .given .1) (keyed .read-key .ensures .1) (valued .read-value .ensures .1)
+    _ _ (words .key-at .ensures) (known .next .ensures)
+
+pairs-returns-3 : (t : ℕ) → Pairs t pairs-lts.Need-returns-3
+pairs-returns-3 t c = let run = c .before .loop .inv in (pairs.run-done run (omega arith), run .grown)
+
+-- ---- `read_value`
+
+abbrev value-calls : ℕ → value-lts.Claims
+value-calls t = (
+  check-tag-reads.Asked,
+  check-tag-reads.Learnt,
+  again-reads.Asked,
+  again-reads.Learnt,
+  container-below t,
+  read-container.Post,
+  anew-reads.Asked,
+  anew-reads.Learnt,
+  read-reference-reads.Asked,
+  read-reference-reads.Learnt,
+  read-common-reads.Asked,
+  read-common-reads.Learnt,
+)
+
+-- a need of it at the measure t, or a moment in it
+abbrev Value : ℕ → (value-lts.Claims → In 3 value-kinds.ps → Out 3 value-kinds.ps value-kinds.r → Type 0) → Type 0
+Value t Of = Of (value-calls t) (value-at t) read-value.Post
+
+-- what the checks at the tag say, where they let it pass
+module _ (t : ℕ) (opened : Value t value-lts.After-gate2) where
+  abbrev checked : Value t value-lts.After-check-tag
+  checked = opened .before .before
+
+  abbrev start : Value t value-lts.Start
+  start = checked .before .before .before .before
+
+  gate : IsOpen (start .args .source .now) (start .args .capacity) (start .args .cursor) (opened .gate2 .given .0 .0)
+  gate = subst (GateAt _ _ _) (opened .gate2 .given .1) (checked .check-tag .ensures)
+
+value-check-tag-requires : (t : ℕ) → Value t value-lts.Need-check-tag-requires
+value-check-tag-requires t c κs = c .before .before .before .pre .1 .inside
+
+value-read-container-requires : (t : ℕ) → Value t value-lts.Need-read-container-requires
+value-read-container-requires t c κs =
+    let kind = c .before .before .before in
+    let opened = kind .before .before in
+    let same = c .again .ensures in
+    let g = leaves.open-again same (gate t opened) in (
+      omega (arith, start t opened .pre .0, ap (λ (x : Cursor). x .at) same),
+      (subst (Fit _ _ _) (sym same) (start t opened .pre .1), (g .inside, g .free, g .level, tagged.container-of _ (kind .match2 .keys1))),
+    )
+
+value-read-reference-requires : (t : ℕ) → Value t value-lts.Need-read-reference-requires
+value-read-reference-requires t c κs =
+    let kind = c .before .before in
+    let opened = kind .before .before in
+    let same = c .again2 .ensures in
+    let g = leaves.open-again same (gate t opened) in
+    (subst (Fit _ _ _) (sym same) (start t opened .pre .1), (g .inside, g .free, tagged.reference-of _ (kind .match2 .keys2)))
+
+value-read-common-requires : (t : ℕ) → Value t value-lts.Need-read-common-requires
+value-read-common-requires t c κs =
+    let kind = c .before in
+    let opened = kind .before .before in
+    let g = gate t opened in
+    (start t opened .pre .1, (g .inside, g .free, tagged.scalar-rest _ (g .known) (kind .match2 .rest .0 .1) (kind .match2 .rest .1)))
+
+value-returns : (t : ℕ) → Value t value-lts.Need-returns
+value-returns t c = (subst (GateAt _ _ _) (c .before .gate .given .1) (c .before .before .before .check-tag .ensures), grows-none _)
+
+value-returns-2 : (t : ℕ) → Value t value-lts.Need-returns-2
+value-returns-2 t c =
+    let called = c .before .before .before .before .before in
+    let opened = called .before .before .before .before .before .before in (
+      leaves.meets-again _ _ _ _ _ _ _ _ _ (gate t opened) (called .before .again .ensures) (c .anew .ensures) (called .read-container .ensures .0),
+      called .read-container .ensures .1,
+    )
+
+value-returns-3 : (t : ℕ) → Value t value-lts.Need-returns-3
+value-returns-3 t c =
+    let called = c .before .before .before in
+    let opened = called .before .before .before .before .before in (
+      leaves.meets-again _ _ _ _ _ _ _ _ _ (gate t opened) (called .before .again2 .ensures) (c .anew2 .ensures) (called .read-reference .ensures _),
+      grows-none _,
+    )
+
+value-returns-4 : (t : ℕ) → Value t value-lts.Need-returns-4
+value-returns-4 t c =
+    let called = c .before .before in
+    let opened = called .before .before .before .before in (
+      leaves.meets-by _ _ _ _ _ _ _ (called .read-common .result) (leaves.gate-open _ _ _ _ (gate t opened)) (called .read-common .ensures _),
+      grows-none _,
+    )
 
 pub +read-container+read-pairs+read-value-spec : {M : Type 1} → statement M
 +read-container+read-pairs+read-value-spec =
-    close μ-read-container μ-read-pairs μ-read-value (λ t. read-container-lts.spec (
-      head-reads.Asked,
-      head-reads.Learnt,
-      refused-reads.Asked,
-      refused-reads.Learnt,
-      enter-reads.Asked,
-      enter-reads.Learnt,
-      read-pairs-below t,
-      read-pairs.Post,
-      byte-is-reads.Asked,
-      byte-is-reads.Learnt,
-      put-end-reads.Asked,
-      put-end-reads.Learnt,
-    )
-    (read-container-at t)
-    read-container.Post
-    (λ c κs. let f = c .before .before .before .pre .1 .0 in let b = c .before .before .before .pre .1 .1 in (b .0, b .3))
+    close μ-container μ-pairs μ-value
+    (λ t. container-lts.spec (container-calls t) (container-at t) read-container.Post
+    (container-head-requires t)
     (λ c. search needs)
     (λ c. search needs)
     (λ c κs. search needs)
-    (λ c.
-    let enum-told = c .before in
-    let head = enum-told .before .before in
-    let start = head .before .before .before .before in (
-      containers.head-not _ _ _ _ (start .pre .1 .1 .3) (start .args .table .now) (start .args .table .now) _ _ _ (head .head .ensures) (enum-told .enum-told .given .1) (c .refused .ensures),
-      grows-none _,
-    ))
-    (λ c κs.
-    let start = c .before .before .before .before .before .before .before .before in
-    let f = start .pre .1 .0 in
-    let b = start .pre .1 .1 in
-    (omega arith, f .ordinal, b .2))
-    (λ c κs.
-    let enter = c .before .before .before .before in
-    let scan = enter .before .before .before in
-    let head = scan .before .before in
-    let start = head .before .before .before .before in
-    let f = start .pre .1 .0 in
-    let b = start .pre .1 .1 in
-    let h = (found-of (head .head .ensures) (scan .scan .given .1)) in
-    let e = (enter .enter .ensures) .cursor in
-    (omega (arith, ap (λ (i : Cursor). i .at) e, h .on, h .inside), containers.first-fit _ _ _ _ _ _ _ e (h .inside) f (b .1) (enter .enter .kept .0)))
+    (container-returns t)
+    (container-enter-requires t)
+    (container-read-pairs-requires t)
     (λ c. search needs)
     (λ c. search needs)
     (λ c. search needs)
     (λ c. search needs)
-    (λ c.
-    let read-pairs = c .before .before .before .before .before .before in
-    let enter = read-pairs .before .before .before .before .before in
-    let scan = enter .before .before .before in
-    let head = scan .before .before in
-    let start = head .before .before .before .before in (
-      leaves.meets-bad _ _ _ _ _ _ _ _ _ (c .enum-told2 .given .1) (containers.pairs-refused _ _ _ _ (start .pre .1 .1 .3) _ (found-of (head .head .ensures) (scan .scan .given .1)) _ ((enter .enter .ensures) .cursor) _ _ (subst (MeetsPairs _ _ _ _ _ _) (c .enum-told2 .given .1) (read-pairs .read-pairs .ensures .0))),
-      read-pairs .read-pairs .ensures .1,
-    ))
+    (container-returns-2 t)
     (λ c κs. search needs)
     (λ c. search needs)
     (λ c. search needs)
-    (λ c.
-    let byte-is = c .before in
-    let step = byte-is .before .before in
-    let read-pairs = step .before .before .before .before .before .before in
-    let enter = read-pairs .before .before .before .before .before in
-    let scan = enter .before .before .before in
-    let head = scan .before .before in
-    let start = head .before .before .before .before in
-    let is = found-of (head .head .ensures) (scan .scan .given .1) in
-    let inner = subst (MeetsPairs _ _ _ _ _ _) (step .step .given .1) (read-pairs .read-pairs .ensures .0) in (
-      containers.brace-missing _ _ _ _ (start .pre .1 .1 .3) _ is (start .args .table .now) _ _ (start .args .table .now) (start .pre .1 .0) (start .pre .1 .1 .1) _ _ (enter .enter .ensures) inner (sym (byte-is .byte-is .ensures) ∙ not-true _ (c .if1 .taken)),
-      read-pairs .read-pairs .ensures .1,
-    ))
-    (λ c κs.
-    let start = c .before .before .before .before .before .before .before .before .before .before .before .before .before .before .before .before .before .before .before .before .before .before .before .before in
-    let f = start .pre .1 .0 in
-    let b = start .pre .1 .1 in
-    omega arith)
-    (λ c.
-    let if1 = c .before .before .before .before in
-    let byte-is = if1 .before in
-    let start = byte-is .before .before .before .before .before .before .before .before .before .before .before .before .before .before .before .before .before .before .before .before .before .before in
-    let g = start .good .0 in
-    omega (arith, byte-there _ _ (byte "}") (lit< tt) (sym (byte-is .byte-is .ensures) ∙ not-false _ (if1 .if1 .left))))
+    (container-returns-3 t)
+    (container-put-end-requires t)
+    (container-add-t26 t)
     (λ c. search needs)
     (λ c. search needs)
-    (λ c.
-    let put-end = c .before .before in
-    let if1 = put-end .before .before in
-    let byte-is = if1 .before in
-    let step = byte-is .before .before in
-    let read-pairs = step .before .before .before .before .before .before in
-    let enter = read-pairs .before .before .before .before .before in
-    let scan = enter .before .before .before in
-    let head = scan .before .before in
-    let start = head .before .before .before .before in
-    let is = found-of (head .head .ensures) (scan .scan .given .1) in
-    let inner = subst (MeetsPairs _ _ _ _ _ _) (step .step .given .1) (read-pairs .read-pairs .ensures .0) in (
-      containers.container-good _ _ _ _ (start .pre .1 .1 .3) _ is (start .args .table .now) _ _ _ (start .pre .1 .0) (start .pre .1 .1 .1) _ _ (enter .enter .ensures) inner (sym (byte-is .byte-is .ensures) ∙ not-false _ (if1 .if1 .left)) (read-pairs .read-pairs .kept .1 .0) (put-end .put-end .ensures),
-      read-pairs .read-pairs .ensures .1,
-    )))
-    (λ t. read-pairs-lts.spec (
-      read-key-reads.Asked,
-      read-key-reads.Learnt,
-      key-at-reads.Asked,
-      key-at-reads.Learnt,
-      next-reads.Asked,
-      next-reads.Learnt,
-      read-value-below t,
-      read-value.Post,
-    )
-    (read-pairs-at t)
-    read-pairs.Post
-    read-pairs-Inv-loop
-    read-pairs-μ-loop
-    (λ c. pairs.run-start _ _ _ _ _ _ _ (c .before .before .before .pre .1))
-    (λ c κs. ((c .before .before .before .loop .inv) .fit, pairs.run-walk (c .before .before .before .loop .inv)))
+    (container-returns-4 t))
+    (λ t. pairs-lts.spec (pairs-calls t) (pairs-at t) read-pairs.Post pairs-Inv-loop pairs-μ-loop
+    (pairs-loop-holds t)
+    (pairs-read-key-requires t)
     (λ c. search needs)
     (λ c. search needs)
-    (λ c.
-    let read-key = c .before .before .before .before .before .before in
-    let loop = read-key .before .before .before .before in
-    omega (arith, (loop .loop .inv) .long, read-key .read-key .kept .1 .0))
-    (λ c.
-    let read-key = c .before .before .before .before .before .before in
-    let loop = read-key .before .before .before .before in
-    omega (arith, (loop .loop .inv) .filter-long, read-key .read-key .kept .1 .1 .0))
-    (λ c.
-    let read-key = c .before .before .before .before .before .before in
-    let loop-test = read-key .before .before .before in
-    let loop = loop-test .before in (
-      pairs.pairs-bad _ _ _ _ _ _ _ _ _ (c .enum-told .given .1) (pairs.run-key-bad (loop .loop .inv) (loop-test .loop-test .taken) _ _ (subst (MeetsKey _ _ _ _ _ _) (c .enum-told .given .1) (read-key .read-key .ensures .0 ((loop .loop .inv) .earlier) ((loop .loop .inv) .keys)))),
-      grows-on ((loop .loop .inv) .grown) (read-key .read-key .ensures .1 .grows),
-    ))
+    (pairs-same-length t)
+    (pairs-same-length-2 t)
+    (pairs-returns t)
     (λ c κs. search needs)
     (λ c κs. search needs)
-    (λ c κs.
-    let key = c .before .before .before .before .before .before in
-    let read-key = key .before .before .before .before .before .before in
-    let loop-test = read-key .before .before .before in
-    let loop = loop-test .before in
-    let k = (subst (MeetsKey _ _ _ _ _ _) (key .key .given .1) (read-key .read-key .ensures .0 ((loop .loop .inv) .earlier) ((loop .loop .inv) .keys))) in
-    let o = pairs.run-on (loop .loop .inv) in
-    (omega (arith, k .on, k .inside), pairs.mid-fit (loop .loop .inv) (loop-test .loop-test .taken) _ _ k (read-key .read-key .kept .1 .0)))
+    (pairs-read-value-requires t)
     (λ c. search needs)
     (λ c. search needs)
-    (λ c.
-    let read-value = c .before .before .before .before .before .before .before in
-    let read-key = read-value .before .before .before .before .before .before .before .before .before .before .before .before .before in
-    let loop = read-key .before .before .before .before in
-    omega (arith, (loop .loop .inv) .long, read-key .read-key .kept .1 .0, read-value .read-value .kept .1 .0))
-    (λ c.
-    let read-value = c .before .before .before .before .before .before .before in
-    let read-key = read-value .before .before .before .before .before .before .before .before .before .before .before .before .before in
-    let loop = read-key .before .before .before .before in
-    omega (arith, (loop .loop .inv) .filter-long, read-key .read-key .kept .1 .1 .0, read-value .read-value .kept .1 .1 .0))
-    (λ c.
-    let value2 = c .before in
-    let read-value = value2 .before .before .before .before .before .before in
-    let key = read-value .before .before .before .before .before .before .before in
-    let read-key = key .before .before .before .before .before .before in
-    let loop-test = read-key .before .before .before in
-    let loop = loop-test .before in
-    let run = loop .loop .inv in
-    let read = subst (MeetsKey _ _ _ _ _ _) (key .key .given .1) (read-key .read-key .ensures .0 (run .earlier) (run .keys)) in
-    let held = subst (Meets _ _ _ _ _ _) (value2 .value2 .given .1) (read-value .read-value .ensures .0) in (
-      pairs.run-value-bad run (loop-test .loop-test .taken) _ _ read _ _ held,
-      grows-on (run .grown) (grows-on (read-key .read-key .ensures .1 .grows) (read-value .read-value .ensures .1)),
-    ))
-    (λ c.
-    let loop-test = c .before .before .before .before .before .before .before .before .before .before .before .before .before .before .before .before .before .before .before .before .before .before .before in
-    omega (arith, loop-test .loop-test .taken))
-    (λ c.
-    let loop-test = c .before .before .before .before .before .before .before .before .before .before .before .before .before .before .before .before .before .before .before .before .before .before .before in
-    omega (arith, loop-test .loop-test .taken))
-    (λ c.
-    let value = c .before in
-    let read-value = value .before .before .before .before .before .before in
-    let next = read-value .before .before .before in
-    let key-at = next .before in
-    let key = key-at .before .before .before in
-    let read-key = key .before .before .before .before .before .before in
-    let loop-test = read-key .before .before .before in
-    let loop = loop-test .before in
-    let run = loop .loop .inv in
-    let read = subst (MeetsKey _ _ _ _ _ _) (key .key .given .1) (read-key .read-key .ensures .0 (run .earlier) (run .keys)) in
-    let held = subst (Meets _ _ _ _ _ _) (value .value .given .1) (read-value .read-value .ensures .0) in
-    pairs.run-more run (loop-test .loop-test .taken) _ _ read _ _ held (read-key .read-key .kept .1 .0) (read-value .read-value .kept .1 .0) _ _ (read-key .read-key .kept .1 .1 .0) (read-value .read-value .kept .1 .1 .0) _ (key .key .given .1) (read-key .read-key .ensures .1) (read-value .read-value .ensures .1) _ _ (key-at .key-at .ensures) (next .next .ensures))
+    (pairs-same-length-3 t)
+    (pairs-same-length-4 t)
+    (pairs-returns-2 t)
+    (pairs-sub-more t)
+    (pairs-loop-less t)
+    (pairs-loop-again t)
     (λ c. search needs)
     (λ c. search needs)
-    (λ c. (pairs.run-done (c .before .loop .inv) (omega arith), (c .before .loop .inv) .grown)))
-    λ t. read-value-lts.spec (
-      check-tag-reads.Asked,
-      check-tag-reads.Learnt,
-      again-reads.Asked,
-      again-reads.Learnt,
-      read-container-below t,
-      read-container.Post,
-      anew-reads.Asked,
-      anew-reads.Learnt,
-      read-reference-reads.Asked,
-      read-reference-reads.Learnt,
-      read-common-reads.Asked,
-      read-common-reads.Learnt,
-    )
-    (read-value-at t)
-    read-value.Post
-    (λ c κs. c .before .before .before .pre .1 .inside)
+    (pairs-returns-3 t))
+    λ t. value-lts.spec (value-calls t) (value-at t) read-value.Post
+    (value-check-tag-requires t)
     (λ c. search needs)
     (λ c. search needs)
     (λ c κs. search needs)
-    (λ c κs.
-    let kind = c .before .before .before in
-    let opened = kind .before .before in
-    let checked = opened .before .before in
-    let start = checked .before .before .before .before in
-    let e = c .again .ensures in
-    let g = leaves.open-again e (subst (GateAt _ _ _) (opened .gate2 .given .1) (checked .check-tag .ensures)) in
-    (omega (arith, start .pre .0, ap (λ (x : Cursor). x .at) e), (subst (Fit _ _ _) (sym e) (start .pre .1), (g .inside, g .free, g .level, tagged.container-of _ (kind .match2 .keys1)))))
+    (value-read-container-requires t)
     (λ c κs. search needs)
     (λ c κs. search needs)
-    (λ c κs.
-    let kind = c .before .before in
-    let opened = kind .before .before in
-    let checked = opened .before .before in
-    let start = checked .before .before .before .before in
-    let e = c .again2 .ensures in
-    let g = leaves.open-again e (subst (GateAt _ _ _) (opened .gate2 .given .1) (checked .check-tag .ensures)) in
-    (subst (Fit _ _ _) (sym e) (start .pre .1), (g .inside, g .free, tagged.reference-of _ (kind .match2 .keys2))))
+    (value-read-reference-requires t)
     (λ c κs. search needs)
-    (λ c κs.
-    let opened = c .before .before .before in
-    let checked = opened .before .before in
-    let g = subst (GateAt _ _ _) (opened .gate2 .given .1) (checked .check-tag .ensures) in
-    (checked .before .before .before .before .pre .1, (g .inside, g .free, tagged.scalar-rest _ (g .known) (c .before .match2 .rest .0 .1) (c .before .match2 .rest .1))))
-    (λ c. (subst (GateAt _ _ _) (c .before .gate .given .1) (c .before .before .before .check-tag .ensures), grows-none _))
+    (value-read-common-requires t)
+    (value-returns t)
     (λ c. search needs)
     (λ c. search needs)
-    (λ c.
-    let called = c .before .before .before .before .before in
-    let opened = called .before .before .before .before .before .before in
-    let g = subst (GateAt _ _ _) (opened .gate2 .given .1) (opened .before .before .check-tag .ensures) in
-    (leaves.meets-again _ _ _ _ _ _ _ _ _ g (called .before .again .ensures) (c .anew .ensures) (called .read-container .ensures .0), called .read-container .ensures .1))
+    (value-returns-2 t)
     (λ c. search needs)
-    (λ c.
-    let called = c .before .before .before in
-    let opened = called .before .before .before .before .before in
-    let g = subst (GateAt _ _ _) (opened .gate2 .given .1) (opened .before .before .check-tag .ensures) in
-    (leaves.meets-again _ _ _ _ _ _ _ _ _ g (called .before .again2 .ensures) (c .anew2 .ensures) (called .read-reference .ensures _), grows-none _))
+    (value-returns-3 t)
     (λ c. search needs)
-    (λ c.
-    let called = c .before .before in
-    let opened = called .before .before .before .before in
-    let g = subst (GateAt _ _ _) (opened .gate2 .given .1) (opened .before .before .check-tag .ensures) in
-    (leaves.meets-by _ _ _ _ _ _ _ (called .read-common .result) (leaves.gate-open _ _ _ _ g) (called .read-common .ensures _), grows-none _))
+    (value-returns-4 t)

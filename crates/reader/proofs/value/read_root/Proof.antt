@@ -1,12 +1,23 @@
 -- `reader::value::read_root` meets its contract, by the cases of `read_value`. Assumes nothing.
 use borrow.Author.Needs.{needs}
 use mathlib.Core.Path.{subst}
-use Rattle.reader.specs.Steps.{GateAt}
+use Rattle.reader.specs.Steps.{IsOpen, GateAt}
 use Rattle.key_filter.proofs.Marking.{grows-none}
 use Rattle.reader.proofs.Tagged as tagged
 use Rattle.reader.proofs.Leaves as leaves
 use Rattle.reader.proofs.value.read_root.Statement.{statement}
 use Rattle.reader.proofs.value.read_root.Tie as tie
+
+-- what the checks at the tag say, where they let it pass
+module _ (opened : tie.After-gate2) where
+  abbrev checked : tie.After-check-tag
+  checked = opened .before .before
+
+  abbrev start : tie.Start
+  start = checked .before .before .before .before
+
+  gate : IsOpen (start .args .source .now) (start .args .capacity) (start .args .cursor) (opened .gate2 .given .0 .0)
+  gate = subst (GateAt _ _ _) (opened .gate2 .given .1) (checked .check-tag .ensures)
 
 check-tag-requires : tie.Need-check-tag-requires
 check-tag-requires c κs = search needs
@@ -19,24 +30,24 @@ enum-known-gate-2 c = search needs
 
 read-container-requires : tie.Need-read-container-requires
 read-container-requires c κs =
-    let opened = c .before .before .before .before in
-    let checked = opened .before .before in
-    let g = subst (GateAt _ _ _) (opened .gate2 .given .1) (checked .check-tag .ensures) in
-    (checked .before .before .before .before .pre, (g .inside, g .free, g .level, tagged.container-of _ (c .before .before .match2 .keys1)))
+    let kind = c .before .before in
+    let opened = kind .before .before in
+    let g = gate opened in
+    (start opened .pre, (g .inside, g .free, g .level, tagged.container-of _ (kind .match2 .keys1)))
 
 read-reference-requires : tie.Need-read-reference-requires
 read-reference-requires c κs =
-    let opened = c .before .before .before in
-    let checked = opened .before .before in
-    let g = subst (GateAt _ _ _) (opened .gate2 .given .1) (checked .check-tag .ensures) in
-    (checked .before .before .before .before .pre, (g .inside, g .free, tagged.reference-of _ (c .before .match2 .keys2)))
+    let kind = c .before in
+    let opened = kind .before .before in
+    let g = gate opened in
+    (start opened .pre, (g .inside, g .free, tagged.reference-of _ (kind .match2 .keys2)))
 
 read-scalar-requires : tie.Need-read-scalar-requires
 read-scalar-requires c κs =
-    let opened = c .before .before .before in
-    let checked = opened .before .before in
-    let g = subst (GateAt _ _ _) (opened .gate2 .given .1) (checked .check-tag .ensures) in
-    (checked .before .before .before .before .pre, (g .inside, g .free, tagged.scalar-rest _ (g .known) (c .before .match2 .rest .0 .1) (c .before .match2 .rest .1)))
+    let kind = c .before in
+    let opened = kind .before .before in
+    let g = gate opened in
+    (start opened .pre, (g .inside, g .free, tagged.scalar-rest _ (g .known) (kind .match2 .rest .0 .1) (kind .match2 .rest .1)))
 
 returns : tie.Need-returns
 returns c = (subst (GateAt _ _ _) (c .before .gate .given .1) (c .before .before .before .check-tag .ensures), grows-none _)
@@ -50,9 +61,10 @@ same-length-2 c = search needs
 returns-2 : tie.Need-returns-2
 returns-2 c =
     let called = c .before .before .before .before in
-    let opened = called .before .before .before .before .before in
-    let g = subst (GateAt _ _ _) (opened .gate2 .given .1) (opened .before .before .check-tag .ensures) in
-    (leaves.meets-by _ _ _ _ _ _ _ (called .read-container .result) (leaves.gate-open _ _ _ _ g) (called .read-container .ensures .0), called .read-container .ensures .1)
+    let opened = called .before .before .before .before .before in (
+      leaves.meets-by _ _ _ _ _ _ _ (called .read-container .result) (leaves.gate-open _ _ _ _ (gate opened)) (called .read-container .ensures .0),
+      called .read-container .ensures .1,
+    )
 
 same-length-3 : tie.Need-same-length-3
 same-length-3 c = search needs
@@ -60,9 +72,10 @@ same-length-3 c = search needs
 returns-3 : tie.Need-returns-3
 returns-3 c =
     let called = c .before .before in
-    let opened = called .before .before .before .before in
-    let g = subst (GateAt _ _ _) (opened .gate2 .given .1) (opened .before .before .check-tag .ensures) in
-    (leaves.meets-by _ _ _ _ _ _ _ (called .read-reference .result) (leaves.gate-open _ _ _ _ g) (called .read-reference .ensures _), grows-none _)
+    let opened = called .before .before .before .before in (
+      leaves.meets-by _ _ _ _ _ _ _ (called .read-reference .result) (leaves.gate-open _ _ _ _ (gate opened)) (called .read-reference .ensures _),
+      grows-none _,
+    )
 
 same-length-4 : tie.Need-same-length-4
 same-length-4 c = search needs
@@ -70,9 +83,10 @@ same-length-4 c = search needs
 returns-4 : tie.Need-returns-4
 returns-4 c =
     let called = c .before .before in
-    let opened = called .before .before .before .before in
-    let g = subst (GateAt _ _ _) (opened .gate2 .given .1) (opened .before .before .check-tag .ensures) in
-    (leaves.meets-by _ _ _ _ _ _ _ (called .read-scalar .result) (leaves.gate-open _ _ _ _ g) (called .read-scalar .ensures _), grows-none _)
+    let opened = called .before .before .before .before in (
+      leaves.meets-by _ _ _ _ _ _ _ (called .read-scalar .result) (leaves.gate-open _ _ _ _ (gate opened)) (called .read-scalar .ensures _),
+      grows-none _,
+    )
 
 pub read-root-spec : {M : Type 1} → statement M
 read-root-spec =

@@ -20,7 +20,10 @@ byte-is-requires : tie.Need-byte-is-requires
 byte-is-requires c κs = search needs
 
 returns-2 : tie.Need-returns-2
-returns-2 c = λ h. plain.plain-whole _ _ _ (c .before .before .before .run-at .ensures) (c .before .before .if1 .left) (sym (c .before .byte-is .ensures) ∙ c .if2 .taken)
+returns-2 c =
+    let asked = c .before in
+    let some = asked .before in
+    λ h. plain.plain-whole _ _ _ (some .before .run-at .ensures) (some .if1 .left) (sym (asked .byte-is .ensures) ∙ c .if2 .taken)
 
 byte-is-requires-2 : tie.Need-byte-is-requires-2
 byte-is-requires-2 c κs = search needs
@@ -40,11 +43,11 @@ byte-is-requires-3 c κs = search needs
 returns-4 : tie.Need-returns-4
 returns-4 c =
     let fraction = c .before .before in
-    let point-asked = fraction .before .before in
-    let whole = point-asked .before .before .before .before in
-    let point = sym (point-asked .byte-is2 .ensures) ∙ not-false _ (fraction .before .if3 .left) in
+    let pointed = fraction .before in
+    let some = pointed .before .before .before .before in
+    let point = sym (pointed .before .byte-is2 .ensures) ∙ not-false _ (pointed .if3 .left) in
     let end = sym (c .before .byte-is3 .ensures) ∙ c .if4 .taken in
-    λ h. plain.plain-part _ _ _ (whole .run-at .ensures) (point-asked .before .before .before .if1 .left) point _ (fraction .run-at2 .ensures) end
+    λ h. plain.plain-part _ _ _ (some .before .run-at .ensures) (some .if1 .left) point _ (fraction .run-at2 .ensures) end
 
 returns-5 : tie.Need-returns-5
 returns-5 c = λ h. absurd (omega (arith, h))

@@ -24,7 +24,9 @@ count-requires : tie.Need-count-requires
 count-requires c κs = search needs
 
 returns-2 : tie.Need-returns-2
-returns-2 c = answered (heads.array-is _ _ _ (sym (c .before .before .byte-is .ensures) ∙ not-false _ (c .before .if1 .left)) (c .count .ensures .scans))
+returns-2 c =
+    let past = c .before in
+    answered (heads.array-is _ _ _ (sym (past .before .byte-is .ensures) ∙ not-false _ (past .if1 .left)) (c .count .ensures .scans))
 
 pub array-spec : {M : Type 1} → statement M
 array-spec = tie.close (tie.spec byte-is-requires returns add-count count-requires returns-2)

@@ -27,10 +27,21 @@ enum-told-2 : tie.Need-enum-told-2
 enum-told-2 c = search needs
 
 returns-2 : tie.Need-returns-2
-returns-2 c = answered (heads.object-count _ _ _ (found-of (c .before .before .before .before .before .before .quoted .ensures .scans) (c .before .before .before .before .named .given .1)) _ _ (c .before .before .count .ensures .scans) (c .enum-told2 .given .1))
+returns-2 c =
+    let counted = c .before .before in
+    let found = counted .before .before in
+    let quoted = found .before .before in
+    let name = found-of (quoted .quoted .ensures .scans) (found .named .given .1) in
+    answered (heads.object-count _ _ _ name _ _ (counted .count .ensures .scans) (c .enum-told2 .given .1))
 
 returns-3 : tie.Need-returns-3
-returns-3 c = answered (heads.object-is _ _ _ (found-of (c .before .before .before .before .before .before .before .quoted .ensures .scans) (c .before .before .before .before .before .named .given .1)) _ (found-of (c .before .before .before .count .ensures .scans) (c .before .counted .given .1)))
+returns-3 c =
+    let done = c .before in
+    let counted = done .before .before in
+    let found = counted .before .before in
+    let quoted = found .before .before in
+    let name = found-of (quoted .quoted .ensures .scans) (found .named .given .1) in
+    answered (heads.object-is _ _ _ name _ (found-of (counted .count .ensures .scans) (done .counted .given .1)))
 
 pub object-spec : {M : Type 1} → statement M
 object-spec =

@@ -35,8 +35,10 @@ add-next c = let p = c .before .plain-end .ensures (omega (arith, c .if2 .left))
 
 returns-3 : tie.Need-returns-3
 returns-3 c =
-    let p = c .before .plain-end .ensures (omega (arith, c .if2 .left)) in
-    let colon = sym (c .before .before .before .byte-is .ensures) ∙ not-false _ (c .before .before .if1 .left) in
+    let ended = c .before in
+    let past = ended .before in
+    let p = ended .plain-end .ensures (omega (arith, c .if2 .left)) in
+    let colon = sym (past .before .byte-is .ensures) ∙ not-false _ (past .if1 .left) in
     record { text = λ x e. found-of (scalars.scalar-float _ _ _ _ refl (floats.float-is _ _ colon _ (p .semicolon) (p .float) _ refl _ refl (p .inside))) e }
 
 pub plain-spec : {M : Type 1} → statement M

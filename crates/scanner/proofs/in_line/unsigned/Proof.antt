@@ -25,7 +25,8 @@ magnitude-requires c κs = search needs
 
 returns-2 : tie.Need-returns-2
 returns-2 c =
-    let colon = sym (c .before .before .byte-is .ensures) ∙ not-false _ (c .before .if1 .left) in
+    let past = c .before in
+    let colon = sym (past .before .byte-is .ensures) ∙ not-false _ (past .if1 .left) in
     record { text = λ x e. found-of (scalars.scalar-int _ _ _ _ refl (int-unsigned _ _ colon _ (c .magnitude .ensures) x e)) e }
 
 pub unsigned-spec : {M : Type 1} → statement M

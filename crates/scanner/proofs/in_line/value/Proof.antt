@@ -41,4 +41,15 @@ returns-4 c = scalars.made (c .anew .ensures) (c .before .scalar .ensures)
 pub value-spec : {M : Type 1} → statement M
 value-spec =
     tie.close
-    (tie.spec null-requires unsigned-requires or-scalar-requires plain-requires or-scalar-requires-2 scalar-requires anew-requires returns returns-2 returns-3 returns-4)
+    (tie.spec
+    null-requires
+    unsigned-requires
+    or-scalar-requires
+    plain-requires
+    or-scalar-requires-2
+    scalar-requires
+    anew-requires
+    returns
+    returns-2
+    returns-3
+    returns-4)

@@ -25,13 +25,21 @@ bytes-are-requires : tie.Need-bytes-are-requires
 bytes-are-requires c κs = search needs
 
 returns-2 : tie.Need-returns-2
-returns-2 c = answered (count-open _ _ _ (found-of (c .before .before .before .before .before .digits .ensures) (c .before .before .before .scan .given .1)) (sym (c .before .bytes-are .ensures) ∙ not-true _ (c .if1 .taken)))
+returns-2 c =
+    let compared = c .before in
+    let found = compared .before .before in
+    let scanned = found .before .before in
+    answered (count-open _ _ _ (found-of (scanned .digits .ensures) (found .scan .given .1)) (sym (compared .bytes-are .ensures) ∙ not-true _ (c .if1 .taken)))
 
 add-t8 : tie.Need-add-t8
 add-t8 c = omega (arith, pair-there _ _ _ _ (sym (c .before .bytes-are .ensures) ∙ not-false _ (c .if1 .left)) (lit< tt))
 
 returns-3 : tie.Need-returns-3
-returns-3 c = answered (count-is _ _ _ (found-of (c .before .before .before .before .before .digits .ensures) (c .before .before .before .scan .given .1)) (sym (c .before .bytes-are .ensures) ∙ not-false _ (c .if1 .left)))
+returns-3 c =
+    let compared = c .before in
+    let found = compared .before .before in
+    let scanned = found .before .before in
+    answered (count-is _ _ _ (found-of (scanned .digits .ensures) (found .scan .given .1)) (sym (compared .bytes-are .ensures) ∙ not-false _ (c .if1 .left)))
 
 pub count-spec : {M : Type 1} → statement M
 count-spec =

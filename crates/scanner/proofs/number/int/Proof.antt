@@ -26,7 +26,10 @@ magnitude-requires : tie.Need-magnitude-requires
 magnitude-requires c κs = omega (arith, c .sign-at .ensures .top, limit-low (c .sign-at .ensures .sign))
 
 returns-2 : tie.Need-returns-2
-returns-2 c = answered (int-front _ _ (sym (c .before .before .before .byte-is .ensures) ∙ not-false _ (c .before .before .if1 .left)) _ (c .before .sign-at .ensures) _ (c .magnitude .ensures))
+returns-2 c =
+    let signed = c .before in
+    let past = signed .before in
+    answered (int-front _ _ (sym (past .before .byte-is .ensures) ∙ not-false _ (past .if1 .left)) _ (signed .sign-at .ensures) _ (c .magnitude .ensures))
 
 pub int-spec : {M : Type 1} → statement M
 int-spec =

@@ -20,22 +20,40 @@ enum-told : tie.Need-enum-told
 enum-told c = search needs
 
 returns : tie.Need-returns
-returns c = magnitude-not (c .before .before .before .before .args .negative) _ (c .before .before .digits .ensures) (c .enum-told .given .1)
+returns c =
+    let scanned = c .before .before in
+    let start = scanned .before .before in
+    magnitude-not (start .args .negative) _ (scanned .digits .ensures) (c .enum-told .given .1)
 
 byte-is-requires : tie.Need-byte-is-requires
 byte-is-requires c κs = search needs
 
 returns-2 : tie.Need-returns-2
-returns-2 c = magnitude-open _ _ (c .before .before .before .before .before .before .before .args .negative) _ _ (found-of (c .before .before .before .before .before .digits .ensures) (c .before .before .before .scan .given .1)) (sym (c .before .byte-is .ensures) ∙ not-true _ (c .if1 .taken))
+returns-2 c =
+    let compared = c .before in
+    let found = compared .before .before in
+    let scanned = found .before .before in
+    let start = scanned .before .before in
+    let is = found-of (scanned .digits .ensures) (found .scan .given .1) in
+    magnitude-open _ _ (start .args .negative) _ _ is (sym (compared .byte-is .ensures) ∙ not-true _ (c .if1 .taken))
 
 pattern-of-requires : tie.Need-pattern-of-requires
 pattern-of-requires c κs = search needs
 
 add-t11 : tie.Need-add-t11
-add-t11 c = omega (arith, byte-there _ _ (byte ";") (lit< tt) (sym (c .before .before .byte-is .ensures) ∙ not-false _ (c .before .if1 .left)))
+add-t11 c =
+    let closed = c .before in
+    omega (arith, byte-there _ _ (byte ";") (lit< tt) (sym (closed .before .byte-is .ensures) ∙ not-false _ (closed .if1 .left)))
 
 returns-3 : tie.Need-returns-3
-returns-3 c = magnitude-is _ _ (c .before .before .before .before .before .before .before .before .args .negative) _ _ (found-of (c .before .before .before .before .before .before .digits .ensures) (c .before .before .before .before .scan .given .1)) _ (c .pattern-of .ensures) (sym (c .before .before .byte-is .ensures) ∙ not-false _ (c .before .if1 .left))
+returns-3 c =
+    let closed = c .before in
+    let compared = closed .before in
+    let found = compared .before .before in
+    let scanned = found .before .before in
+    let start = scanned .before .before in
+    let is = found-of (scanned .digits .ensures) (found .scan .given .1) in
+    magnitude-is _ _ (start .args .negative) _ _ is _ (c .pattern-of .ensures) (sym (compared .byte-is .ensures) ∙ not-false _ (closed .if1 .left))
 
 pub magnitude-spec : {M : Type 1} → statement M
 magnitude-spec =

@@ -30,7 +30,11 @@ returns-2 : tie.Need-returns-2
 returns-2 c = front-is _ _ minus _ (sign-minus _ _ (sym (c .before .byte-is2 .ensures) ∙ c .if2 .taken)) refl refl
 
 returns-3 : tie.Need-returns-3
-returns-3 c = front-is _ _ unsigned _ (sign-none _ _ (sym (c .before .before .before .byte-is .ensures) ∙ c .before .before .if1 .left) (sym (c .before .byte-is2 .ensures) ∙ c .if2 .left)) refl refl
+returns-3 c =
+    let asked = c .before in
+    let no-plus = asked .before in
+    front-is _ _ unsigned _
+    (sign-none _ _ (sym (no-plus .before .byte-is .ensures) ∙ no-plus .if1 .left) (sym (asked .byte-is2 .ensures) ∙ c .if2 .left)) refl refl
 
 pub sign-at-spec : {M : Type 1} → statement M
 sign-at-spec =

@@ -1,24 +1,70 @@
 -- `scanner::quoted::quoted` meets its contract. Assumes nothing.
-use mathlib.Core.Path.{sym, refl, _∙_}
+use Prim.Native.Nat.{ℕ, _+_, _<_}
 use native.Mathlib.Omega.{arith}
-use lib.Dec.{lit<}
+use mathlib.Core.Path.{_≡_, sym, refl, _∙_}
+use mathlib.Core.Bool.{true, _&&_}
+use mathlib.Core.List.{List}
+use lib.Dec.{eqb, lit<}
 use borrow.Author.Tests.{not-true, not-false}
 use Rattle.format.specs.Bytes.{byte}
+use Rattle.format.specs.Limits.{numberLimit}
+use Rattle.bytes_at.specs.ByteAt.{byteAt}
 use Rattle.bytes_at.proofs.BytesAt.{byte-there, pair-there}
+use Rattle.scanner.specs.declared.Text.{Text}
+use Rattle.scanner.specs.Scans.{Found, valueTold}
+use Rattle.scanner.specs.Parts.{digitsText}
 use Rattle.scanner.proofs.Numbers.{found-of, answered}
 use Rattle.scanner.proofs.Quotes as quotes
 use borrow.Author.Needs.{needs}
 use Rattle.scanner.proofs.quoted.quoted.Statement.{statement}
 use Rattle.scanner.proofs.quoted.quoted.Tie as tie
 
+-- behind the colon
+module _ (past : tie.Else1) where
+  abbrev start : tie.Start
+  start = past .before .before .before
+
+  abbrev source : List ℕ
+  source = start .args .source .now
+
+  abbrev at : ℕ
+  at = start .args .at
+
+  colon : eqb (byteAt source at) (byte ":") ≡ true
+  colon = sym (past .before .byte-is .ensures) ∙ not-false _ (past .if1 .left)
+
+  small : start .args .close < 256
+  small = omega arith
+
+-- behind the length
+module _ (sized : tie.After-scan) where
+  abbrev past : tie.Else1
+  past = sized .before .before .before
+
+  abbrev run : Text
+  run = sized .scan .given .0 .0
+
+  size : Found (digitsText numberLimit) valueTold (source past) (at past + 1) run
+  size = found-of (sized .before .before .digits .ensures) (sized .scan .given .1)
+
+-- behind the opening quote
+module _ (opened : tie.Else2) where
+  abbrev sized : tie.After-scan
+  sized = opened .before .before .before
+
+  quote : (eqb (byteAt (source (past sized)) (run sized .next)) (byte ":") && eqb (byteAt (source (past sized)) (run sized .next + 1)) (byte "\"")) ≡ true
+  quote = sym (opened .before .bytes-are .ensures) ∙ not-false _ (opened .if2 .left)
+
 byte-is-requires : tie.Need-byte-is-requires
 byte-is-requires c κs = search needs
 
 returns : tie.Need-returns
-returns c = answered (quotes.quoted-colon _ _ (c .before .before .before .args .close) (omega arith) (sym (c .before .byte-is .ensures) ∙ not-true _ (c .if1 .taken)))
+returns c =
+    let asked = c .before in
+    answered (quotes.quoted-colon _ _ (asked .before .before .args .close) (omega arith) (sym (asked .byte-is .ensures) ∙ not-true _ (c .if1 .taken)))
 
 add-digits : tie.Need-add-digits
-add-digits c = omega (arith, byte-there _ _ (byte ":") (lit< tt) (sym (c .before .byte-is .ensures) ∙ not-false _ (c .if1 .left)))
+add-digits c = omega (arith, byte-there _ _ (byte ":") (lit< tt) (colon c))
 
 digits-requires : tie.Need-digits-requires
 digits-requires c κs = search needs
@@ -30,37 +76,60 @@ enum-told : tie.Need-enum-told
 enum-told c = search needs
 
 returns-2 : tie.Need-returns-2
-returns-2 c = answered (quotes.quoted-not _ _ (c .before .before .before .before .before .before .args .close) (omega arith) (sym (c .before .before .before .before .byte-is .ensures) ∙ not-false _ (c .before .before .before .if1 .left)) _ _ (c .before .before .digits .ensures) (c .enum-told .given .1))
+returns-2 c =
+    let scanned = c .before .before in
+    let past = scanned .before in
+    answered (quotes.quoted-not _ _ _ (small past) (colon past) _ _ (scanned .digits .ensures) (c .enum-told .given .1))
 
 bytes-are-requires : tie.Need-bytes-are-requires
 bytes-are-requires c κs = search needs
 
 returns-3 : tie.Need-returns-3
-returns-3 c = answered (quotes.quoted-quote _ _ (c .before .before .before .before .before .before .before .before .before .args .close) (omega arith) (sym (c .before .before .before .before .before .before .before .byte-is .ensures) ∙ not-false _ (c .before .before .before .before .before .before .if1 .left)) _ (found-of (c .before .before .before .before .before .digits .ensures) (c .before .before .before .scan .given .1)) (sym (c .before .bytes-are .ensures) ∙ not-true _ (c .if2 .taken)))
+returns-3 c =
+    let compared = c .before in
+    let sized = compared .before .before in
+    answered (quotes.quoted-quote _ _ _ (small (past sized)) (colon (past sized)) _ (size sized)
+    (sym (compared .bytes-are .ensures) ∙ not-true _ (c .if2 .taken)))
 
 add-offset : tie.Need-add-offset
-add-offset c = omega (arith, pair-there _ _ _ _ (sym (c .before .bytes-are .ensures) ∙ not-false _ (c .if2 .left)) (lit< tt))
+add-offset c = omega (arith, pair-there _ _ _ _ (quote c) (lit< tt))
 
 sub-if3 : tie.Need-sub-if3
-sub-if3 c = omega (arith, pair-there _ _ _ _ (sym (c .before .bytes-are .ensures) ∙ not-false _ (c .if2 .left)) (lit< tt))
+sub-if3 c = omega (arith, pair-there _ _ _ _ (quote c) (lit< tt))
 
 returns-4 : tie.Need-returns-4
-returns-4 c = answered (quotes.quoted-short _ _ (c .before .before .before .before .before .before .before .before .before .before .args .close) (omega arith) (sym (c .before .before .before .before .before .before .before .before .byte-is .ensures) ∙ not-false _ (c .before .before .before .before .before .before .before .if1 .left)) _ (found-of (c .before .before .before .before .before .before .digits .ensures) (c .before .before .before .before .scan .given .1)) (sym (c .before .before .bytes-are .ensures) ∙ not-false _ (c .before .if2 .left)) (c .if3 .taken))
+returns-4 c =
+    let opened = c .before in
+    let digits = sized opened in
+    answered (quotes.quoted-short _ _ _ (small (past digits)) (colon (past digits)) _ (size digits) (quote opened) (c .if3 .taken))
 
 add-end : tie.Need-add-end
-add-end c = omega (arith, pair-there _ _ _ _ (sym (c .before .before .bytes-are .ensures) ∙ not-false _ (c .before .if2 .left)) (lit< tt), c .if3 .left)
+add-end c = omega (arith, pair-there _ _ _ _ (quote (c .before)) (lit< tt), c .if3 .left)
 
 bytes-are-requires-2 : tie.Need-bytes-are-requires-2
 bytes-are-requires-2 c κs = search needs
 
 returns-5 : tie.Need-returns-5
-returns-5 c = answered (quotes.quoted-open _ _ (c .before .before .before .before .before .before .before .before .before .before .before .before .args .close) (omega arith) (sym (c .before .before .before .before .before .before .before .before .before .before .byte-is .ensures) ∙ not-false _ (c .before .before .before .before .before .before .before .before .before .if1 .left)) _ (found-of (c .before .before .before .before .before .before .before .before .digits .ensures) (c .before .before .before .before .before .before .scan .given .1)) (sym (c .before .before .before .before .bytes-are .ensures) ∙ not-false _ (c .before .before .before .if2 .left)) (c .before .before .if3 .left) (sym (c .before .bytes-are2 .ensures) ∙ not-true _ (c .if4 .taken)))
+returns-5 c =
+    let compared = c .before in
+    let enough = compared .before in
+    let opened = enough .before in
+    let digits = sized opened in
+    answered (quotes.quoted-open _ _ _ (small (past digits)) (colon (past digits)) _ (size digits) (quote opened) (enough .if3 .left)
+    (sym (compared .bytes-are2 .ensures) ∙ not-true _ (c .if4 .taken)))
 
 add-t13 : tie.Need-add-t13
-add-t13 c = omega (arith, pair-there _ _ _ (c .before .before .before .before .before .before .before .before .before .before .before .before .args .close) (sym (c .before .bytes-are2 .ensures) ∙ not-false _ (c .if4 .left)) (omega arith))
+add-t13 c =
+    omega (arith, pair-there _ _ _ _ (sym (c .before .bytes-are2 .ensures) ∙ not-false _ (c .if4 .left)) (small (past (sized (c .before .before .before)))))
 
 returns-6 : tie.Need-returns-6
-returns-6 c = answered (quotes.quoted-is _ _ (c .before .before .before .before .before .before .before .before .before .before .before .before .args .close) (omega arith) (sym (c .before .before .before .before .before .before .before .before .before .before .byte-is .ensures) ∙ not-false _ (c .before .before .before .before .before .before .before .before .before .if1 .left)) _ (found-of (c .before .before .before .before .before .before .before .before .digits .ensures) (c .before .before .before .before .before .before .scan .given .1)) (sym (c .before .before .before .before .bytes-are .ensures) ∙ not-false _ (c .before .before .before .if2 .left)) (c .before .before .if3 .left) _ refl (sym (c .before .bytes-are2 .ensures) ∙ not-false _ (c .if4 .left)))
+returns-6 c =
+    let compared = c .before in
+    let enough = compared .before in
+    let opened = enough .before in
+    let digits = sized opened in
+    answered (quotes.quoted-is _ _ _ (small (past digits)) (colon (past digits)) _ (size digits) (quote opened) (enough .if3 .left) _ refl
+    (sym (compared .bytes-are2 .ensures) ∙ not-false _ (c .if4 .left)))
 
 pub quoted-spec : {M : Type 1} → statement M
 quoted-spec =

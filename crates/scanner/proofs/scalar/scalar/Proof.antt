@@ -36,7 +36,7 @@ returns-5 : tie.Need-returns-5
 returns-5 c = answered (scalars.scalar-string _ _ _ _ (c .before .match .keys5) (c .quoted .ensures .scans))
 
 returns-6 : tie.Need-returns-6
-returns-6 c = answered (scalars.scalar-none _ _ _ (c .match .rest .0 .0 .0 .0 .1) (c .match .rest .0 .0 .0 .1) (c .match .rest .0 .0 .1) (c .match .rest .0 .1) (c .match .rest .1))
+returns-6 c = let not = c .match .rest in answered (scalars.scalar-none _ _ _ (not .0 .0 .0 .0 .1) (not .0 .0 .0 .1) (not .0 .0 .1) (not .0 .1) (not .1))
 
 pub scalar-spec : {M : Type 1} → statement M
 scalar-spec =
