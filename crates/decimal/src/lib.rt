@@ -1,4 +1,9 @@
-// Decimal numerals and two's complement: what reading and writing of numbers rest on.
+// Decimal numerals and two's complement: what floats, scanner and rewriting read and write numbers by.
+// `run_at` takes bytes and any index, and gives where the run of digits there ends and its value, held at a cap. So one function serves *numbers* (cap 65,537)
+// and 64-bit integers, however many leading zeros stand there. Whether a value is too great the caller says: nothing is refused here.
+// `write_decimal` stores the shortest digits and gives their count, which cannot overflow. It loses the stores that fall outside, and so does `put`, by which
+// rewriting writes a minus.
+// `pattern_of` and `signed_of` lead from sign and magnitude to a word and back. The laws of proofs/ hold for every width.
 ghost use mathlib.Core.Path.{_≡_};
 ghost use Prim.Native.Nat.{_+_, _-_, _*_, _≤_, min};
 ghost use lib.ListN.{set};

@@ -1,4 +1,8 @@
-// The services that write plans: the canonical text of the one given, or the one given with a pair put in.
+// The services that write plans. `canonicalize` writes the canonical text of the plan given, `insert` the plan with a pair put in; both take any bytes, table
+// and output, and give the length written, the table being that of the plan written. Refused are what reading refuses, inserting's 11, 12, 13, 9, 8 and 7, and
+// 14: then every word of the table is zero, and the output as it was. The C interface and the program cases call them.
+// Both end in `write_plan`. Four crates make the services, so that an edit proves a quarter of the code again: tokens (what a plan is made of), rewriting (what
+// an edit writes), placing (reading, and the steps before writing) and this one (14, writing, reading again). Each rests on the promises of those below alone.
 use format::limits::SOURCE_LIMIT;
 use placing::Placing;
 use placing::locate;
@@ -14,8 +18,9 @@ ghost use Rattle.format.specs.Writing.{fitsIn, canonicalBytes, insertBytes};
 ghost use Rattle.editor.specs.Promise.{Writes};
 ghost use Rattle.editor.specs.Ends.{Refuses, Settles, Short, Spared, Sound, Roomed, Finishes};
 
-// What is written of so short a source, key and value is never longer than a plan may be: a reference has four bytes or more and grows by one at the most, so five quarters of
-// the source, both texts and a head of nine bytes are at most 65,259.
+// What is written of so short a source, key and value is never longer than a plan may be (`edited-most`, crates/rewriting): a reference has four bytes or more
+// and grows by one at the most, and the parts of an insertion are stretches of the source, which placing promises (`Parted`). So five quarters of the source,
+// both texts and a head of nine bytes are at most 65,259.
 const SHORT_SOURCE: usize = 49000;
 
 const SHORT_TEXT: usize = 2000;
@@ -80,7 +85,8 @@ fn is_spared(room: usize, edit: Edit, source: usize, key: usize, value: usize) -
     }
 }
 
-// Whether there is room for the edited plan. Written where there is none for any of it, a longer one is only measured.
+// Whether there is room for the edited plan. Written where there is none for any of it, in the empty part of the output, a longer one is only measured: so one
+// loop measures and writes, and a refusal has written nothing.
 fn room_for(source: &[u8], edit: Edit, key: &[u8], value: &[u8], out: &mut [u8]) -> bool
     requires { ⌜ Sound (now source) edit (now key) (now value) ⌝ }
     ensures { λ r. ⌜ Roomed (now (source .entry)) edit (now (key .entry)) (now (value .entry)) (now (out .entry)) (now (out .exit)) r ⌝ }
@@ -113,7 +119,7 @@ fn write_plan(
     }
     let written = write(source, edit, key, value, out);
     let Edited::Written(length) = written else {
-        // A key or a value longer than any plan.
+        // A key or a value longer than any plan, which is not edited: what is written would be longer still.
         return refuse(table);
     };
     settle(&out[..length], table)
@@ -135,8 +141,8 @@ pub fn canonicalize(source: &[u8], table: &mut [u64], out: &mut [u8]) -> Writing
     }
 }
 
-// Inserting: puts one pair into the array at a node, before the pair at an index or behind the last one, and renumbers the references behind it. It leaves the table that reading
-// the plan written leaves; a refusal writes nothing, and makes every word of the table zero.
+// Inserting: puts one pair into the array at a node, before the pair at an index or behind the last one, and renumbers the references behind it. It leaves the
+// table that reading the plan written leaves; a refusal writes nothing, and makes every word of the table zero.
 pub fn insert(
     source: &[u8],
     array_node: usize,

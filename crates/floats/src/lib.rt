@@ -1,4 +1,6 @@
-// Whether bytes are a float text.
+// Whether bytes are a float text, `INF`, `-12.5e3` and the like: takes the whole text and gives yes or no, as the grammar's `isFloat` does.
+// Nothing is refused here: the scanner, which calls it with what stands before the first `;`, makes a no its refusal 2. (No float text holds a `;`.)
+// It lies below the scanner, so that an edit of it proves its own layer.
 use bytes_at::byte_is;
 use bytes_at::same_bytes;
 ghost use mathlib.Core.Path.{_≡_};

@@ -1,5 +1,8 @@
 // A Bloom filter of keys: which ones a container may have already. A key marks three bits in each of two words, by its hash, and no bit is ever taken back:
 // a key that has one of its bits unset is new, and any other may be an earlier one or not.
+// `hash` takes a key by its words and the container's first node; `enter` marks a hash in the words lent, whatever their count, and says whether it was marked.
+// Nothing is refused: where no word is lent, each hash counts as marked. The reader calls both; what it needs is one law, that no key entered is taken for new
+// (`new-key`, proofs/Marking). So the filter decides time and never an answer. A crate of its own, so that an edit of it does not prove the reader again.
 use format::table::INT_TAG;
 use keys::KeyWords;
 ghost use mathlib.Core.Path.{_≡_};

@@ -1,4 +1,7 @@
-// Keys by the words of their nodes: when two are equal, each with the source that it stands in.
+// Keys by the words of their nodes, each with the source that it stands in: the key at a node (`key_at`), and whether two are equal (`same_key`).
+// Takes any table, node and words, and refuses nothing: a node that the table has not is all zeros, a text that does not stand in its source is empty.
+// Reader and placing call it, key_filter takes its words. It lies below them, so that an edit of the key test proves its own layer.
+// The two sources have lifetimes of their own, as those of `bytes_at::same_bytes`: the kit's borrow checker covers no call whose two lent slices must have one.
 use bytes_at::same_bytes;
 use format::table::CONTENT;
 use format::table::INT_TAG;

@@ -1,4 +1,7 @@
-// Where inserting puts a pair: the plan is read, and then the steps before writing are taken.
+// Where inserting puts a pair. Takes any plan, node, place and texts, and any table; reads the plan itself, so that it asks nothing of the table, and takes the
+// steps before writing in the paper's order. Gives the spot, the table being that of the plan given; or refuses as inserting does whatever room the output
+// has: 1 to 10 with reading's position, or 11, 12, 13, 9, 8 or 7 at 0, every word of the table zero. The editor calls `locate`.
+// Facts come from the table (the array's count, ordinal and keys, and where its pairs begin), positions from the bytes: no tag's position stands in the table.
 use crate::place::place;
 use reader::Reading;
 use rewriting::inserted::Spot;

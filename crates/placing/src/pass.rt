@@ -1,4 +1,5 @@
-// Nodes passed in the bytes of a plan that was read: no tag's position stands in the table.
+// Nodes passed in the bytes of a plan that was read, since no tag's position stands in the table: token by token, so many nodes, and then the closing braces
+// of what was opened on the way. That also counts the containers around the array.
 use bytes_at::byte_is;
 use format::kind::Kind;
 use scanner::Scan;

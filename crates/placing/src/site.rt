@@ -16,8 +16,8 @@ pub enum Site {
     Other,
 }
 
-// A place among an array's pairs: the node of the key before which the new pair goes, or the one behind the array, and the ordinal that
-// the new value takes; or a place above the count.
+// A place among an array's pairs: the node of the key before which the new pair goes, or the one behind the array, and the ordinal that the new value takes;
+// or a place above the count.
 pub enum Gap {
     Before { node: usize, ordinal: u64 },
     Beyond,
@@ -71,7 +71,7 @@ fn carried(table: &[u64], first: usize, count: usize) -> usize
     taken
 }
 
-// 12: "place above the array's count".
+// 12: "place above the array's count". The new ordinal is the array's, and one, and one for each node between the array and the gap that carries one.
 pub(crate) fn gap_at(table: &[u64], node: usize, count: u64, ordinal: u64, place: usize) -> Gap
     requires { ⌜ GapBounds (now table) node count ordinal place ⌝ }
     ensures { λ r. ⌜ GapIs (now (table .entry)) node count ordinal place r ⌝ }

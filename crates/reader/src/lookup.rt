@@ -1,4 +1,4 @@
-// The node that carries an ordinal, found by a scan over the nodes so far.
+// The node that carries an ordinal, found by a scan over the nodes so far, from where it can stand at the earliest. (Paper 02's L5 narrows it by halves.)
 use format::table::ORDINAL;
 use format::table::WIDTH;
 ghost use Prim.Native.Nat.{_*_, _≤_, _<_};
@@ -21,8 +21,8 @@ fn scan(table: &[u64], from: usize, to: usize, ordinal: u64) -> usize
     i
 }
 
-// Where to begin: each value but the plan's own has its key before it, so two nodes at least stand before it for each earlier ordinal.
-// Only the time rests on that.
+// Where to begin: each value but the plan's own has its key before it, so two nodes at least stand before it for each earlier ordinal. Only the time rests
+// on that: what is not found from there on is looked for before it.
 fn hint(nodes: usize, ordinal: u64) -> usize
     requires { ⌜ 0 < ordinal ⌝ }
     ensures { λ r. ⌜ r ≤ nodes ⌝ }

@@ -1,5 +1,7 @@
-// Whether a key equals an earlier one of its container. New at once are an integer above all before, where only such came, and a key that is not marked;
-// what is marked is looked for among the pairs.
+// Whether a key equals an earlier one of its container. As long as its keys are integers that rise, a key costs one comparison, by rank. The first that does
+// not rise, or is a string, has all keys of the container marked in the filter (crates/key_filter): a key that is not marked is new, and one that is marked is
+// looked for by a walk over the pairs, from pair to pair by word 5. So the filter decides time and never an answer, and reading's promise does not speak of it.
+// The loop over the pairs carries what is known of the keys (`Seen`) from key to key, and knows nothing else of this.
 use format::table::INT_TAG;
 use format::table::PAIR_END;
 use format::table::WIDTH;

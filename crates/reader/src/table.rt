@@ -58,7 +58,8 @@ pub(crate) fn place(table: &mut [u64], cursor: Cursor, tag: u8, text: Text, take
     }
 }
 
-// Writes the node of a container, whose end is not known yet; the cursor at its first pair.
+// Writes the node of a container, when its head is read, so that nodes stand in the order of their tags. Its end is 0 until its brace is read.
+// The cursor at its first pair.
 pub(crate) fn enter(table: &mut [u64], cursor: Cursor, tag: u8, text: Text) -> Cursor
     requires { ⌜ (cursor .node * width + width ≤ length (now table)) × (cursor .ordinal ≤ cursor .node) × (1 ≤ cursor .levels) ⌝ }
     ensures { λ r. ⌜ Entered (now (table .entry)) (now (table .exit)) cursor tag text r ⌝ }

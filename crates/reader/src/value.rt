@@ -58,8 +58,8 @@ fn read_value(
     }
 }
 
-// A plan's own value, around all others. Reads as `read_value` does, which so is called in one place only, and the compiler keeps it
-// in the loop over the pairs.
+// A plan's own value, around all others. Reads as `read_value` does, which so is called in one place only, and the compiler keeps it in the loop over the
+// pairs.
 pub(crate) fn read_root(
     source: &[u8],
     table: &mut [u64],

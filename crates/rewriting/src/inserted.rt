@@ -8,8 +8,8 @@ ghost use mathlib.Core.Path.{_≡_};
 ghost use Rattle.rewriting.specs.Output.{Puts};
 ghost use Rattle.rewriting.specs.Edited.{stands, insertedText, Insertable};
 
-// Where the new pair goes: the indices of the array's tag, of its first pair and of the gap; the array's count of pairs, and the ordinal that
-// the new value takes.
+// Where the new pair goes: the indices of the array's tag, of its first pair and of the gap; the array's count of pairs, and the ordinal that the new value
+// takes.
 pub struct Spot {
     pub at: usize,
     pub inside: usize,

@@ -1,5 +1,9 @@
-// What is written of a source that is edited: its canonical text, or the source with a pair put in. Defined on any bytes; that it is the
-// right text for a plan that was read is shown above.
+// What an edit writes: the canonical text of a source, or the source with a pair put in. Takes any bytes, and writes as much as the output has room for; gives
+// the length of the whole. Texts longer than a plan, and a place whose head is not in the source, are not edited at all (`Unfit`): so no index overflows.
+// Nothing else is refused. The editor calls `write`, first into an empty output where the text has to be measured.
+// The text is defined on any bytes (specs/Edited, `editedText`), and the code equals it. That it is the right text for a plan that was read is a lemma: tokens
+// that fill the bytes are those between (`between-stretch`, crates/tokens).
+// Goes by tokens, scanned again, since no tag's offset stands in the table: those that stay are passed and copied as one stretch, the others written again.
 use crate::inserted::Spot;
 use crate::inserted::has_head;
 use crate::inserted::write_inserted;

@@ -1,4 +1,6 @@
-// The tokens of a source, each changed in the same way: stretches of them that stay are copied whole, the others written again.
+// The tokens of a source, each changed in the same way: stretches of them that stay are copied whole, the others written again. One loop for both services:
+// what stays is found in one place (stretch.rt), what changes written in another (`respell`). It keeps that what is written and what is left are together
+// the text.
 use crate::output::copy;
 use crate::shortest::numbered;
 use crate::shortest::shortest;
@@ -10,8 +12,8 @@ ghost use Rattle.rewriting.specs.Shortest.{Bounds};
 ghost use Rattle.rewriting.specs.Rewriting.{Named, respelledText, rewrittenText};
 ghost use Rattle.rewriting.specs.Stretches.{Changes};
 
-// What becomes of a token: it is written in canonical spelling; or a reference to an ordinal from this one on names the next, in shortest
-// form, and all else is copied.
+// What becomes of a token: it is written in canonical spelling; or a reference to an ordinal from this one on names the next, in shortest form, and all else
+// is copied.
 pub enum Change {
     Canonical,
     Raise(u64),

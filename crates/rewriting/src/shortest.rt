@@ -1,4 +1,5 @@
-// Tokens in canonical spelling: numbers shortest, all else copied.
+// Tokens in canonical spelling: numbers shortest, all else copied. The numbers come from the scanner's words, of an integer its pattern, read back, and not
+// from the digits that stand there: so `+`, `-0` and leading zeros need no rule of their own.
 use crate::output::copy;
 use crate::output::integer;
 use crate::output::number;
@@ -11,8 +12,8 @@ ghost use lib.ListN.{length};
 ghost use Rattle.rewriting.specs.Output.{Within, Puts};
 ghost use Rattle.rewriting.specs.Shortest.{ShortestFront, numberedText, signedText, objectHeadText, shortestText, QuotedBounds, Bounds};
 
-// Whether a number or an integer is in shortest form, by its first two bytes: a digit other than 0; or one digit and no more; or a minus
-// and a digit other than 0.
+// Whether a number or an integer is in shortest form, by its first two bytes: a digit other than 0; or one digit and no more; or a minus and a digit other
+// than 0.
 pub(crate) fn is_shortest(first: u8, second: u8) -> bool
     ensures { λ r. ⌜ (r ≡ true → ShortestFront first second) ⌝ }
 {

@@ -1,4 +1,5 @@
-// Tokens that stay as they are, passed as one stretch: they are copied whole.
+// Tokens that stay as they are, passed as one stretch: they are copied whole. Whether one stays is told by its tag and its first two digits, since a number
+// with a leading zero begins with one; plain tokens are passed without their values.
 use crate::plain::behind_plain;
 use crate::rewrite::Change;
 use crate::shortest::is_shortest;

@@ -1,5 +1,6 @@
-// Texts of scalars where most time goes: those that keys and values mostly have are scanned in line, all others by `scalar`. Each is called
-// in one place only, so that the compiler keeps it there.
+// Texts of scalars where most time goes. LLVM inlines by size and by the number of call sites: so the texts that keys (an i without a sign, an s) and values
+// (an N, an i without a sign, a plain d) mostly have are scanned by two functions that are called in one place each, and stay in the loop over the pairs. All
+// others go by `scalar`, a call. Both promise what `scalar` does.
 use crate::Scan;
 use crate::Text;
 use crate::flag::null;

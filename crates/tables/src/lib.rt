@@ -1,4 +1,6 @@
-// The table that a caller lends.
+// The table that a caller lends. `clear` takes any, and makes every word of it zero, those behind the last whole node too.
+// Nothing is refused here: it is what a refusal leaves.
+// Reader, placing and editor call it, each for the refusals that are its own.
 ghost use mathlib.Core.Path.{_≡_};
 ghost use Rattle.format.specs.Reading.{cleared};
 

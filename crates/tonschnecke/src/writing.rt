@@ -41,7 +41,8 @@ pub extern "C" fn ton_canonicalize(source: &[u8], table: &mut [u64], out: &mut [
     as_struct(editor::canonicalize(source, table, out))
 }
 
-// Puts one pair into an array of a plan, and leaves the table that reading the plan written leaves. A refusal writes nothing, and makes every word of the table zero.
+// Puts one pair into an array of a plan, and leaves the table that reading the plan written leaves. A refusal writes nothing, and makes every word of the
+// table zero.
 #[no_mangle]
 pub extern "C" fn ton_insert(
     source: &[u8],
