@@ -10,8 +10,6 @@ BUILD := $(CURDIR)/build
 CARGO := CARGO_TARGET_DIR=$(BUILD)/cargo TONSCHNECKE_LIB_DIR=$(BUILD) cargo
 # one more than the cores: a prover waits now and then; a small crate's edits take an eighth less time so
 JOBS := $(shell echo $$(($$(nproc) + 1)))
-CFLAGS := -std=c99 -Wall -Wextra -Werror -pedantic
-SANITIZERS := -g -fsanitize=address,undefined -fno-sanitize-recover=all
 PREFIX ?= /usr/local
 DESTDIR ?=
 VERSION := $(shell sed -n 's/^version = "\(.*\)"$$/\1/p' rust/Cargo.toml)
@@ -50,27 +48,20 @@ run: command
 	examples/run.sh
 
 # the proved library beside a side written from the specification alone; the programs, the C examples and what is installed as
-# a user runs them. The sanitizers watch the examples' own code; the archive is not built with them.
+# a user runs them
 compare: archive command
 	rt check nodes
-	tests/nodes.sh $(CURDIR)/target/bin/nodes $(BUILD)/tonschnecke
-	for example in read canonicalize insert day; do \
-		for checks in '$(SANITIZERS)' ''; do \
-			gcc $(CFLAGS) $$checks -Iinclude examples/$$example.c $(BUILD)/libtonschnecke.a -o $(BUILD)/$$example && \
-			$(BUILD)/$$example < examples/year.plan > $(BUILD)/$$example.out && \
-			diff examples/$$example.out $(BUILD)/$$example.out || exit 1; \
-		done; \
-	done
-	tests/install.sh
+	for test in tests/programs/*.sh; do $$test || exit 1; done
 	$(CARGO) test --quiet --release --manifest-path rust/Cargo.toml
 	$(CARGO) test --quiet --release --manifest-path tests/Cargo.toml
+	$(CARGO) test --quiet --release --manifest-path bench/Cargo.toml
 	$(CARGO) run --quiet --release --manifest-path tests/Cargo.toml --bin differential
 
 fuzz: archive
 	$(CARGO) run --quiet --release --manifest-path tests/Cargo.toml --bin differential -- --seconds $(SECONDS) --seed $(SEED)
 
 bench: archive
-	$(CARGO) run --quiet --profile measure --manifest-path tests/Cargo.toml --bin bench $(if $(ROUNDS),-- --rounds $(ROUNDS))
+	$(CARGO) run --quiet --profile measure --manifest-path bench/Cargo.toml $(if $(ROUNDS),-- --rounds $(ROUNDS))
 
 # rt ci starts from nothing; what it proved is not proved again for the tests, and its last line, the verdict, is printed last
 test:

@@ -14,7 +14,10 @@ const COMMANDS: [(&str, &str); 6] = [
         "make install",
         "it writes to /usr/local; the guide does not",
     ),
-    ("make uninstall", "so does this; tests/install.sh runs both"),
+    (
+        "make uninstall",
+        "so does this; tests/programs/install.sh runs both",
+    ),
 ];
 
 /// The languages of code, each with the files that may hold such a block; they are compiled or run elsewhere.
