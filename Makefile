@@ -3,7 +3,7 @@
 # make test: the gate, what CI runs; its last line is 'N passed, 0 failed'.
 # make fuzz SECONDS=600 SEED=7: the library against the independent side for so long.  make bench: its times beside Rust code's and,
 # where php is installed, PHP's, and its instructions, where valgrind is; make bench ROUNDS=1 is a trial in seconds.
-.PHONY: all programs archive command run test compare fuzz bench install uninstall clean always
+.PHONY: all programs archive command run test compare fuzz bench install uninstall clean needed always
 # two runs of rt at once would write the same files
 .NOTPARALLEL:
 .DELETE_ON_ERROR:
@@ -25,6 +25,10 @@ SEED ?= 1
 
 all: command programs
 
+# says what is missing, before anything is proved
+needed:
+	@tools/need.sh rt cargo gcc
+
 # what C and Rust link: every library proved
 archive: $(ARCHIVE)
 
@@ -37,17 +41,18 @@ $(ARCHIVE): $(BUILD)/sources
 
 # the kit and the sums of the libraries' files: written anew only where something changed, and then the archive is too old
 $(BUILD)/sources: always
+	@tools/need.sh rt
 	@mkdir -p $(BUILD)
 	@{ rt version; sha256sum crates.txt; find $(LIBRARIES:%=crates/%) -path '*/must-fail' -prune -o -type f -exec sha256sum {} + | sort -k 2; } > $@.new
 	@cmp -s $@.new $@ || cp $@.new $@
 
 # the archive inside a program for users
-command: archive
+command: needed archive
 	@$(CARGO) build --quiet --release --manifest-path rust/Cargo.toml
 	@install -m 755 $(BUILD)/cargo/release/tonschnecke $(BUILD)/tonschnecke
 
 # proved, linked and run
-programs:
+programs: needed
 	@tools/rt.sh build/programs.log check $(PROGRAMS)
 
 run: command
@@ -62,15 +67,15 @@ compare: command programs
 	$(CARGO) test --quiet --release --manifest-path bench/Cargo.toml
 	$(CARGO) run --quiet --release --manifest-path tests/Cargo.toml --bin differential
 
-fuzz: archive
+fuzz: needed archive
 	$(CARGO) run --quiet --release --manifest-path tests/Cargo.toml --bin differential -- --seconds $(SECONDS) --seed $(SEED)
 
-bench: archive
+bench: needed archive
 	$(CARGO) run --quiet --profile measure --manifest-path bench/Cargo.toml $(if $(ROUNDS),-- --rounds $(ROUNDS))
 
 # rt ci starts from nothing; what it proved is not proved again for the tests, whose archive is made of it. Its last line, the
 # verdict, is printed last.
-test:
+test: needed
 	rt fmt --check
 	@echo 'Proving every crate from nothing and trying every edit: a quarter of an hour on two cores. build/ci.log has the details.'
 	@RT_JOBS=$(JOBS) tools/rt.sh build/ci.log ci || { tail -n 1 build/ci.log; exit 1; }

@@ -11,9 +11,9 @@ unset MAKEFLAGS MAKELEVEL
 mkdir "$scratch/bin"
 cat > "$scratch/bin/rt" <<'END'
 #!/bin/sh
-[ "$1" = version ] || echo "rt $1" >> calls
+[ "${1#--}" = version ] || echo "rt $1" >> calls
 case $1 in
-    version) echo rattle-kit-5 ;;
+    version | --version) echo rattle-kit-5 ;;
     staticlib) mkdir -p target/staticlib && cat crates/*/src/* > target/staticlib/libtonschnecke.a ;;
     check | ci)
         echo 'fn of_a_crate: proved'
