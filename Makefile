@@ -53,6 +53,7 @@ command: needed archive
 
 # proved, linked and run
 programs: needed
+	@echo 'Proving the programs: about two minutes from nothing on two cores, a second where nothing changed. build/programs.log has the details.'
 	@tools/rt.sh build/programs.log check $(PROGRAMS)
 
 run: command
@@ -77,7 +78,7 @@ bench: needed archive
 # verdict, is printed last.
 test: needed
 	rt fmt --check
-	@echo 'Proving every crate from nothing and trying every edit: a quarter of an hour on two cores. build/ci.log has the details.'
+	@echo 'Proving every crate from nothing and trying every edit: about a quarter of an hour on two cores. build/ci.log has the details.'
 	@RT_JOBS=$(JOBS) tools/rt.sh build/ci.log ci || { tail -n 1 build/ci.log; exit 1; }
 	@rm -f $(ARCHIVE)
 	$(MAKE) --no-print-directory compare

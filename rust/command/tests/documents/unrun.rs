@@ -36,13 +36,15 @@ const CODE: [(&str, &[&str]); 4] = [
 ];
 
 /// Where the files are that documents name.
-const FOLDERS: [&str; 6] = [
+const FOLDERS: [&str; 8] = [
+    "bench/",
     "crates/",
     "docs/",
     "examples/",
     "include/",
     "rust/",
     "tests/",
+    "tools/",
 ];
 
 fn documents() -> [Document; 3] {
