@@ -3,15 +3,19 @@
 # make test: the gate, what CI runs; its last line is 'N passed, 0 failed'.  make wrong: more wrong programs, each to be refused.
 # make fuzz SECONDS=600 SEED=7: the library against the independent side for so long.  make bench: its times beside Rust code's and,
 # where php is installed, PHP's, and its instructions, where valgrind is; make bench ROUNDS=1 is a trial in seconds.
-.PHONY: all prove archive command run test wrong compare fuzz bench install uninstall clean
+.PHONY: all programs archive command run test wrong compare fuzz bench install uninstall clean needed always
+# two runs of rt at once would write the same files
+.NOTPARALLEL:
+.DELETE_ON_ERROR:
 
 SHELL := /bin/bash
 BUILD := $(CURDIR)/build
+ARCHIVE := $(BUILD)/libtonschnecke.a
 CARGO := CARGO_TARGET_DIR=$(BUILD)/cargo TONSCHNECKE_LIB_DIR=$(BUILD) cargo
+LIBRARIES := $(patsubst crates/%/src/lib.rt,%,$(wildcard crates/*/src/lib.rt))
+PROGRAMS := $(patsubst crates/%/src/main.rt,%,$(wildcard crates/*/src/main.rt))
 # one more than the cores: a prover waits now and then; a small crate's edits take an eighth less time so
 JOBS := $(shell echo $$(($$(nproc) + 1)))
-CFLAGS := -std=c99 -Wall -Wextra -Werror -pedantic
-SANITIZERS := -g -fsanitize=address,undefined -fno-sanitize-recover=all
 PREFIX ?= /usr/local
 DESTDIR ?=
 VERSION := $(shell sed -n 's/^version = "\(.*\)"$$/\1/p' rust/Cargo.toml)
@@ -19,75 +23,77 @@ INSTALLED := bin/tonschnecke lib/libtonschnecke.a include/tonschnecke.h lib/pkgc
 SECONDS ?= 60
 SEED ?= 1
 
-all: prove archive command
+all: command programs
 
-prove:
-	rt check
+# says what is missing, before anything is proved
+needed:
+	@tools/need.sh rt cargo gcc
 
-# what C and Rust link
-archive:
-	rt staticlib tonschnecke
-	mkdir -p $(BUILD)
-	cp target/staticlib/libtonschnecke.a $(BUILD)/libtonschnecke.a
+# what C and Rust link: every library proved
+archive: $(ARCHIVE)
 
-define BUILD_COMMAND
-$(CARGO) build --quiet --release --manifest-path rust/Cargo.toml
-install -m 755 $(BUILD)/cargo/release/tonschnecke $(BUILD)/tonschnecke
-endef
+# rt staticlib proves what tonschnecke stands on one crate at a time, rt check several at once
+$(ARCHIVE): $(BUILD)/sources
+	@echo 'Proving the library, crate by crate: about four minutes from nothing on two cores. build/prove.log has the details.'
+	@tools/rt.sh build/prove.log check $(filter-out tonschnecke,$(LIBRARIES))
+	@tools/rt.sh build/archive.log staticlib tonschnecke
+	@cp target/staticlib/libtonschnecke.a $@
+
+# the kit and the sums of the libraries' files: written anew only where something changed, and then the archive is too old
+$(BUILD)/sources: always
+	@tools/need.sh rt
+	@mkdir -p $(BUILD)
+	@{ rt version; sha256sum crates.txt; find $(LIBRARIES:%=crates/%) \( -name must-fail -o -name wrong \) -prune -o -type f -exec sha256sum {} + | sort -k 2; } > $@.new
+	@cmp -s $@.new $@ || cp $@.new $@
 
 # the archive inside a program for users
-command: archive
-	$(BUILD_COMMAND)
+command: needed archive
+	@$(CARGO) build --quiet --release --manifest-path rust/Cargo.toml
+	@install -m 755 $(BUILD)/cargo/release/tonschnecke $(BUILD)/tonschnecke
 
-# for install: what is built already needs no rt
-$(BUILD)/libtonschnecke.a:
-	$(MAKE) archive
-
-$(BUILD)/tonschnecke: | $(BUILD)/libtonschnecke.a
-	$(BUILD_COMMAND)
+# proved, linked and run
+programs: needed
+	@echo 'Proving the programs: about two minutes from nothing on two cores, a second where nothing changed. build/programs.log has the details.'
+	@tools/rt.sh build/programs.log check $(PROGRAMS)
 
 run: command
-	examples/run.sh
+	@examples/run.sh
 
 # the proved library beside a side written from the specification alone; the programs, the C examples and what is installed as
-# a user runs them. The sanitizers watch the examples' own code; the archive is not built with them.
-compare: archive command
-	rt check nodes
-	tests/nodes.sh $(CURDIR)/target/bin/nodes $(BUILD)/tonschnecke
-	for example in read canonicalize insert day; do \
-		for checks in '$(SANITIZERS)' ''; do \
-			gcc $(CFLAGS) $$checks -Iinclude examples/$$example.c $(BUILD)/libtonschnecke.a -o $(BUILD)/$$example && \
-			$(BUILD)/$$example < examples/year.plan > $(BUILD)/$$example.out && \
-			diff examples/$$example.out $(BUILD)/$$example.out || exit 1; \
-		done; \
-	done
-	tests/install.sh
+# a user runs them
+compare: command programs
+	for test in tests/programs/*.sh; do $$test || exit 1; done
 	$(CARGO) test --quiet --release --manifest-path rust/Cargo.toml
 	$(CARGO) test --quiet --release --manifest-path tests/Cargo.toml
+	$(CARGO) test --quiet --release --manifest-path bench/Cargo.toml
 	$(CARGO) run --quiet --release --manifest-path tests/Cargo.toml --bin differential
 
-fuzz: archive
+fuzz: needed archive
 	$(CARGO) run --quiet --release --manifest-path tests/Cargo.toml --bin differential -- --seconds $(SECONDS) --seed $(SEED)
 
-bench: archive
-	$(CARGO) run --quiet --profile measure --manifest-path tests/Cargo.toml --bin bench $(if $(ROUNDS),-- --rounds $(ROUNDS))
+bench: needed archive
+	$(CARGO) run --quiet --profile measure --manifest-path bench/Cargo.toml $(if $(ROUNDS),-- --rounds $(ROUNDS))
 
-# rt ci starts from nothing; what it proved is not proved again for the tests, and its last line, the verdict, is printed last
-test:
+# rt ci starts from nothing; what it proved is not proved again for the tests, whose archive is made of it. Its last line, the
+# verdict, is printed last.
+test: needed
 	rt fmt --check
-	mkdir -p $(BUILD)
-	set -o pipefail; RT_JOBS=$(JOBS) rt ci | tee $(BUILD)/ci.log | sed -u '$$d' || { tail -n 1 $(BUILD)/ci.log; exit 1; }
+	@echo 'Proving every crate from nothing and trying every edit: about a quarter of an hour on two cores. build/ci.log has the details.'
+	@RT_JOBS=$(JOBS) tools/rt.sh build/ci.log ci || { tail -n 1 build/ci.log; exit 1; }
+	@rm -f $(ARCHIVE)
 	$(MAKE) --no-print-directory compare
-	tail -n 1 $(BUILD)/ci.log
+	@tail -n 1 build/ci.log
 
 # more wrong programs than the gate tries, over the incremental check
-wrong:
+wrong: needed
 	tools/wrong.sh
 
-install: $(BUILD)/libtonschnecke.a $(BUILD)/tonschnecke
+# builds only what is missing: what is there needs neither rt nor cargo
+install:
+	@[ -f $(ARCHIVE) ] && [ -f $(BUILD)/tonschnecke ] || $(MAKE) --no-print-directory command
 	install -d $(foreach file,$(INSTALLED),"$(DESTDIR)$(PREFIX)/$(dir $(file))")
 	install -m 755 $(BUILD)/tonschnecke "$(DESTDIR)$(PREFIX)/bin/tonschnecke"
-	install -m 644 $(BUILD)/libtonschnecke.a "$(DESTDIR)$(PREFIX)/lib/libtonschnecke.a"
+	install -m 644 $(ARCHIVE) "$(DESTDIR)$(PREFIX)/lib/libtonschnecke.a"
 	install -m 644 include/tonschnecke.h "$(DESTDIR)$(PREFIX)/include/tonschnecke.h"
 	sed 's|@PREFIX@|$(PREFIX)|; s|@VERSION@|$(VERSION)|' tonschnecke.pc.in > $(BUILD)/tonschnecke.pc
 	install -m 644 $(BUILD)/tonschnecke.pc "$(DESTDIR)$(PREFIX)/lib/pkgconfig/tonschnecke.pc"

@@ -10,11 +10,16 @@ fn main() {
         || manifest.join("../../build"),
         |given| manifest.join(given),
     );
-    println!("cargo:rerun-if-env-changed=TONSCHNECKE_LIB_DIR");
-    println!(
-        "cargo:rerun-if-changed={}",
-        folder.join("libtonschnecke.a").display()
-    );
-    println!("cargo:rustc-link-search=native={}", folder.display());
-    println!("cargo:rustc-link-lib=static=tonschnecke");
+    let archive = folder.join("libtonschnecke.a");
+    println!("cargo::rerun-if-env-changed=TONSCHNECKE_LIB_DIR");
+    println!("cargo::rerun-if-changed={}", archive.display());
+    if !archive.is_file() {
+        println!(
+            "cargo::error=the proved library is missing, {}: `make archive` in Tonschnecke's folder builds it \
+             in build/; if it stands elsewhere, set TONSCHNECKE_LIB_DIR to its folder",
+            archive.display()
+        );
+    }
+    println!("cargo::rustc-link-search=native={}", folder.display());
+    println!("cargo::rustc-link-lib=static=tonschnecke");
 }

@@ -3,9 +3,8 @@
 //! `model` answers in another style than the library does, `library` calls the archive under test,
 //! `sides` gives them one form, `compare` makes the same call on both and looks at every word and
 //! byte. `cases` holds what the paper states by hand; `generate` and `enumerate` make the plans and
-//! insertions nobody thought of. `bench` is for the benchmark alone.
+//! insertions nobody thought of.
 
-pub mod bench;
 pub mod call;
 pub mod campaign;
 pub mod cases;

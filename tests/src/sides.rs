@@ -1,6 +1,5 @@
 //! Those that answer a call, in one form: each returns its reply and leaves its traces in memory.
 
-use crate::bench::peer;
 use crate::call::{Call, Lent, Place, Reply, Service};
 use crate::library::{self, Reading, Writing};
 use crate::memory::Memory;
@@ -15,14 +14,8 @@ pub fn library(texts: Lent, call: Call, memory: &mut Memory) -> Reply {
     over_slices(functions, texts, call, memory)
 }
 
-/// The benchmark's peer.
-pub fn peer(texts: Lent, call: Call, memory: &mut Memory) -> Reply {
-    let functions = (peer::read, peer::canonicalize, peer::insert);
-    over_slices(functions, texts, call, memory)
-}
-
 /// Has the one of three functions that the call is for write to memory itself.
-fn over_slices(
+pub fn over_slices(
     (read, canonicalize, insert): (
         impl Fn(&[u8], &mut [u64]) -> Reading,
         impl Fn(&[u8], &mut [u64], &mut [u8]) -> Writing,

@@ -97,7 +97,7 @@ fn commands_of_the_format() {
 
 #[test]
 fn make_run_runs_the_script() {
-    let recipe = format!("\nrun: command\n\t{}\n\n", MAKE_RUN.1);
+    let recipe = format!("\nrun: command\n\t@{}\n\n", MAKE_RUN.1);
     assert!(read("Makefile").contains(&recipe));
     let shown = format!("$ {}", MAKE_RUN.0);
     let readme = Document::new(README);

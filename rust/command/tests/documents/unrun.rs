@@ -14,7 +14,10 @@ const COMMANDS: [(&str, &str); 6] = [
         "make install",
         "it writes to /usr/local; the guide does not",
     ),
-    ("make uninstall", "so does this; tests/install.sh runs both"),
+    (
+        "make uninstall",
+        "so does this; tests/programs/install.sh runs both",
+    ),
 ];
 
 /// The languages of code, each with the files that may hold such a block; they are compiled or run elsewhere.
@@ -33,13 +36,15 @@ const CODE: [(&str, &[&str]); 4] = [
 ];
 
 /// Where the files are that documents name.
-const FOLDERS: [&str; 6] = [
+const FOLDERS: [&str; 8] = [
+    "bench/",
     "crates/",
     "docs/",
     "examples/",
     "include/",
     "rust/",
     "tests/",
+    "tools/",
 ];
 
 fn documents() -> [Document; 3] {

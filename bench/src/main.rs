@@ -10,11 +10,12 @@
 use std::hint::black_box;
 use std::process::ExitCode;
 use std::time::{Duration, Instant};
-use tonschnecke_tests::bench::count::{self, Counter};
-use tonschnecke_tests::bench::goals::Goals;
-use tonschnecke_tests::bench::php::Php;
-use tonschnecke_tests::bench::plans::{self, Plan};
-use tonschnecke_tests::bench::table::{self, lower, Measured};
+use tonschnecke_bench::count::{self, Counter};
+use tonschnecke_bench::goals::Goals;
+use tonschnecke_bench::peer;
+use tonschnecke_bench::php::Php;
+use tonschnecke_bench::plans::{self, Plan};
+use tonschnecke_bench::table::{self, lower, Measured};
 use tonschnecke_tests::call::{Call, Lent, Service};
 use tonschnecke_tests::memory::Memory;
 use tonschnecke_tests::sides::{self, Side};
@@ -103,7 +104,7 @@ fn check(plan: &Plan, service: Service) {
     assert_eq!(reply.code(), 0, "{service}: {name} is refused");
     assert_eq!(
         reply,
-        sides::peer(texts, call, &mut right),
+        peer::side(texts, call, &mut right),
         "{service}, {name}: the answers differ"
     );
     let wrong_word = right.table.first_wrong(&left.table);
@@ -138,7 +139,7 @@ fn measure(plan: &Plan, service: Service, mut php: Option<&mut Php>, rounds: usi
     for _ in 0..rounds {
         let texts = plan.texts.lent();
         let library = round(sides::library, texts, call, &mut memory);
-        let peer = round(sides::peer, texts, call, &mut memory);
+        let peer = round(peer::side, texts, call, &mut memory);
         lower(&mut measured.library, library);
         lower(&mut measured.peer, peer);
         if let Some(php) = &mut php {

@@ -1,4 +1,4 @@
-//! What `src/bin/bench.rs` times: plans that are hard on a reader and an inserter, a peer in Rust and one in PHP to time
+//! What the benchmark times: plans that are hard on a reader and an inserter, a peer in Rust and one in PHP to time
 //! the library beside; and how it tells what it measured.
 
 mod collide;

@@ -6,8 +6,8 @@ use super::room::Notes;
 use super::token::Token;
 use super::trace::Trace;
 use super::{refused, Step, Words, DEPTH_LIMIT};
-use crate::call::{Lent, Place};
 use std::ops::Range;
+use tonschnecke_tests::call::{Lent, Place};
 
 /// The place asked for, and what reading found out about it.
 pub struct Target<'a> {

@@ -1,5 +1,6 @@
 //! The benchmark's peer keeps the contract that it is timed for.
 
+use tonschnecke_bench::peer;
 use tonschnecke_tests::call::{Call, Lent};
 use tonschnecke_tests::cases;
 use tonschnecke_tests::compare;
@@ -8,11 +9,10 @@ use tonschnecke_tests::lengths;
 use tonschnecke_tests::memory::Setting;
 use tonschnecke_tests::model::{self, WORDS};
 use tonschnecke_tests::random::Random;
-use tonschnecke_tests::sides;
 
 #[test]
 fn every_case_has_the_answer_written_by_hand() {
-    cases::hold(sides::peer);
+    cases::hold(peer::side);
 }
 
 /// All services, with generated plans and insertions.
@@ -58,7 +58,7 @@ fn keys(letters: usize, last: &str) -> String {
 
 fn hold(texts: Lent, calls: Vec<Call>) {
     for call in calls {
-        let compared = compare::with_model(sides::peer, texts, call, Setting::Alone);
+        let compared = compare::with_model(peer::side, texts, call, Setting::Alone);
         if let Err(mismatch) = compared {
             panic!("{:?}\n{mismatch}", texts.map(|text| text.escape_ascii()));
         }

@@ -4,13 +4,13 @@
 //! Valgrind runs the benchmark's program anew, which then makes one call and nothing else. Only what runs inside of the
 //! service's own function is counted.
 
-use super::plans::Plan;
-use crate::call::{Place, Service, Texts};
-use crate::memory::Memory;
-use crate::sides;
+use crate::plans::Plan;
 use std::env;
 use std::io::{self, Read, Write};
 use std::process::{Command, Output, Stdio};
+use tonschnecke_tests::call::{Place, Service, Texts};
+use tonschnecke_tests::memory::Memory;
+use tonschnecke_tests::sides;
 
 /// The first argument of a program that is to make one call.
 pub const ONE_CALL: &str = "--one-call";

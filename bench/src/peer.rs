@@ -19,11 +19,13 @@ mod token;
 mod trace;
 mod words;
 
-pub use canonicalize::canonicalize;
-pub use insert::insert;
-
-use crate::library::{Reading, Writing};
+use canonicalize::canonicalize;
+use insert::insert;
 use reader::Reader;
+use tonschnecke_tests::call::{Call, Lent, Reply};
+use tonschnecke_tests::library::{Reading, Writing};
+use tonschnecke_tests::memory::Memory;
+use tonschnecke_tests::sides;
 
 const SOURCE_LIMIT: usize = 65_536;
 const DEPTH_LIMIT: usize = 64;
@@ -50,7 +52,12 @@ impl Refusal {
 
 type Step<T> = Result<T, Refusal>;
 
-pub fn read(source: &[u8], table: &mut [u64]) -> Reading {
+/// The peer as one of those that answer a call.
+pub fn side(texts: Lent, call: Call, memory: &mut Memory) -> Reply {
+    sides::over_slices((read, canonicalize, insert), texts, call, memory)
+}
+
+fn read(source: &[u8], table: &mut [u64]) -> Reading {
     let rows = table.as_chunks_mut().0;
     let read = room::lend(source.len(), |room| {
         Reader::new(source, rows, room.carriers, room.slots, ()).plan()

@@ -1,14 +1,14 @@
 //! PHP as a second peer: a process that runs `php.php` beside this one, for the whole run, and times a round whenever
 //! it is asked to.
 
-use super::plans::Plan;
-use crate::call::{Place, Service};
-use crate::model::{self, Identity};
+use crate::plans::Plan;
 use std::io::{self, BufRead, BufReader, Read, Write};
 use std::process::{Child, ChildStdout, Command, Stdio};
 use std::time::Duration;
+use tonschnecke_tests::call::{Place, Service};
+use tonschnecke_tests::model::{self, Identity};
 
-const SCRIPT: &str = concat!(env!("CARGO_MANIFEST_DIR"), "/src/bench/php.php");
+const SCRIPT: &str = concat!(env!("CARGO_MANIFEST_DIR"), "/src/php.php");
 
 pub struct Php {
     pub version: String,

@@ -1,7 +1,7 @@
 //! What was measured, as lines of a table in Markdown: docs/PERFORMANCE.md has them as they are printed.
 
-use super::plans::Plan;
-use crate::call::Service;
+use crate::plans::Plan;
+use tonschnecke_tests::call::Service;
 
 /// Nanoseconds a call, the fewest that a round found: what else the machine does only adds to them. PHP's are none where
 /// it is missing. Of the library also the instructions of a call, where they are counted.

@@ -1,9 +1,9 @@
 //! The plans that are timed: a year as the works keeps it, long ones that are hard on a reader's keys or on the
 //! references that inserting renumbers, and short ones.
 
-use super::{collide, peer};
-use crate::call::{Call, Lent, Place, Service, Texts};
-use crate::model;
+use crate::{collide, peer};
+use tonschnecke_tests::call::{Call, Lent, Place, Service, Texts};
+use tonschnecke_tests::model;
 
 /// Bytes of the longest plan that is read or written.
 const SOURCE_LIMIT: usize = 65_536;
@@ -118,7 +118,7 @@ fn plan(name: &'static str, source: Vec<u8>) -> Plan {
 }
 
 fn year() -> Vec<u8> {
-    include_bytes!("../../../examples/year.plan").to_vec()
+    include_bytes!("../../examples/year.plan").to_vec()
 }
 
 /// The array of the last month.

@@ -9,9 +9,9 @@ use super::target::Target;
 use super::token::Token;
 use super::words::run_end;
 use super::{answer, refused, Step, Words, DEPTH_LIMIT, SOURCE_LIMIT};
-use crate::call::{Lent, Place};
-use crate::library::Writing;
 use std::ops::Range;
+use tonschnecke_tests::call::{Lent, Place};
+use tonschnecke_tests::library::Writing;
 
 pub fn insert(texts: Lent, place: Place, table: &mut [u64], out: &mut [u8]) -> Writing {
     let rows = table.as_chunks_mut().0;

@@ -1,8 +1,8 @@
 //! The goals that a run is held to. A missed one is told and nothing more: no test rests on a time.
 
-use super::plans::{self, Plan};
-use super::table::{told, Measured};
-use crate::call::Service;
+use crate::plans::{self, Plan};
+use crate::table::{told, Measured};
+use tonschnecke_tests::call::Service;
 
 /// What a plan's call may take at most.
 enum Limit {

@@ -6,8 +6,8 @@ use super::room::{self, Notes, Room};
 use super::splice::{has_text, Splice};
 use super::trace::Trace;
 use super::{answer, refused, Step, Words};
-use crate::library::Writing;
 use std::ops::Range;
+use tonschnecke_tests::library::Writing;
 
 /// Bytes to leave out: positions and lengths.
 struct Surplus<'a> {

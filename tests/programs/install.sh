@@ -1,7 +1,7 @@
 #!/usr/bin/env bash
 # What `make install` puts in place, used as a user would.
 set -eu
-cd "$(dirname "$0")/.."
+cd "$(dirname "$0")/../.."
 scratch=$(mktemp -d)
 trap 'rm -rf "$scratch"' EXIT
 
