@@ -16,8 +16,8 @@ ghost use Rattle.editor.specs.Ends.{Refuses, Settles, Short, Spared, Sou
 // "bytes to write exceed the output's length or 65,536" is refused.
 const SOURCE_LIMIT: usize = 65536;
 
-// What is written of so short a source, key and value is never longer than a plan may be: a reference has four bytes or more and grows by one at the most, so five quarters of
-// the source, both texts and a head of nine bytes are at most 65,259.
+// What is written of so short a source, key and value is never longer than a plan may be: a reference has four bytes or more and grows by
+// one at the most, so five quarters of the source, both texts and a head of nine bytes are at most 65,259.
 const SHORT_SOURCE: usize = 49000;
 
 const SHORT_TEXT: usize = 2000;
@@ -108,7 +108,8 @@ fn write_plan(
     out: &mut [u8],
 ) -> Writing
     requires { ⌜ Sound (now source) edit (now key) (now value) ⌝ }
-    ensures { λ r. ⌜ Finishes (now (source .entry)) edit (now (key .entry)) (now (value .entry)) (now (table .entry)) (now (table .exit)) (now (out .entry)) (now (out .exit)) r ⌝ }
+    ensures { λ r. ⌜ Finishes (now (source .entry)) edit (now (key .entry)) (now (value .entry))
+        (now (table .entry)) (now (table .exit)) (now (out .entry)) (now (out .exit)) r ⌝ }
 {
     if !room_for(source, edit, key, value, out) {
         return refuse(table);
@@ -123,7 +124,8 @@ fn write_plan(
 
 // Retyping: writes the canonical text of a plan, and leaves the table that reading it leaves. A refusal writes nothing, and makes every word of the table zero.
 pub fn canonicalize(source: &[u8], table: &mut [u64], out: &mut [u8]) -> Writing
-    ensures { λ r. ⌜ Writes (canonicalBytes (capacityOf (now (table .entry))) (length (now (out .entry))) (now (source .entry))) (now (source .entry)) (now (table .entry)) (now (table .exit)) (now (out .entry)) (now (out .exit)) r ⌝ }
+    ensures { λ r. ⌜ Writes (canonicalBytes (capacityOf (now (table .entry))) (length (now (out .entry))) (now (source .entry)))
+        (now (source .entry)) (now (table .entry)) (now (table .exit)) (now (out .entry)) (now (out .exit)) r ⌝ }
 {
     match reader::read(source, table) {
         Reading::Refused { code, at } => Writing::Refused { code, at },
@@ -137,8 +139,8 @@ pub fn canonicalize(source: &[u8], table: &mut [u64], out: &mut [u8]) -> Writing
     }
 }
 
-// Inserting: puts one pair into the array at a node, before the pair at an index or behind the last one, and renumbers the references behind it. It leaves the table that reading
-// the plan written leaves; a refusal writes nothing, and makes every word of the table zero.
+// Inserting: puts one pair into the array at a node, before the pair at an index or behind the last one, and renumbers the references behind
+// it. It leaves the table that reading the plan written leaves; a refusal writes nothing, and makes every word of the table zero.
 pub fn insert(
     source: &[u8],
     array_node: usize,
@@ -148,7 +150,9 @@ pub fn insert(
     table: &mut [u64],
     out: &mut [u8],
 ) -> Writing
-    ensures { λ r. ⌜ Writes (insertBytes (capacityOf (now (table .entry))) (length (now (out .entry))) (now (source .entry)) «array_node» «pair_index» (now (key .entry)) (now (value .entry))) (now (source .entry)) (now (table .entry)) (now (table .exit)) (now (out .entry)) (now (out .exit)) r ⌝ }
+    ensures { λ r. ⌜ Writes (insertBytes (capacityOf (now (table .entry))) (length (now (out .entry))) (now (source .entry))
+        «array_node» «pair_index» (now (key .entry)) (now (value .entry)))
+        (now (source .entry)) (now (table .entry)) (now (table .exit)) (now (out .entry)) (now (out .exit)) r ⌝ }
 {
     match locate(source, array_node, pair_index, key, value, table) {
         Placing::Refused { code, at } => Writing::Refused { code, at },
