@@ -42,10 +42,12 @@ room-of : (room : ℕ) (text bytes : List ℕ) → withRoom room text ≡ ok byt
 room-of room text bytes e =
     let a = bind-ok (require (fitsIn room (length text)) 14 0) _ bytes e in
     let same : text ≡ bytes = ok-same (a .2) in
-    (sym same, omega (arith, ap length same, leb→le (length text) room (and-left (leb (length text) room) (leb (length text) sourceLimit) (require-ok (fitsIn room (length text)) 14 0 (a .0) (a .1)))))
+    let fits = require-ok (fitsIn room (length text)) 14 0 (a .0) (a .1) in
+    (sym same, omega (arith, ap length same, leb→le (length text) room (and-left (leb (length text) room) (leb (length text) sourceLimit) fits)))
 
 -- a refusal of reading is its own
-pub read-refused : (capacity room : ℕ) (source : List ℕ) (code at : ℕ) → read capacity source ≡ refused code at → canonicalBytes capacity room source ≡ refused code at
+pub read-refused : (capacity room : ℕ) (source : List ℕ) (code at : ℕ) → read capacity source ≡ refused code at
+    → canonicalBytes capacity room source ≡ refused code at
 unfolding canonicalBytes
 read-refused capacity room source code at e = rw e
 
@@ -57,7 +59,8 @@ canonicalized capacity room source bytes e =
     record { value = a .0; read = a .1; text = r .0; fits = r .1 }
 
 -- of a plan that is read, 14 is the only refusal, and only where its canonical text is too long for the output
-pub by-value : (capacity room : ℕ) (source : List ℕ) (v : Value) → read capacity source ≡ ok v → canonicalBytes capacity room source ≡ withRoom room (print (canonical v))
+pub by-value : (capacity room : ℕ) (source : List ℕ) (v : Value) → read capacity source ≡ ok v
+    → canonicalBytes capacity room source ≡ withRoom room (print (canonical v))
 unfolding canonicalBytes
 by-value capacity room source v e = rw e
 
@@ -69,7 +72,8 @@ module _ (capacity room : ℕ) (source : List ℕ) (v : Value) (e : read capacit
 
   -- where there is room for it, it is written
   pub written-where-room : length (print (canonical v)) ≤ room → canonicalBytes capacity room source ≡ ok (print (canonical v))
-  written-where-room h = by-value capacity room source v e ∙ rw (le-leb (length (print (canonical v))) room h, le-leb (length (print (canonical v))) sourceLimit (no-longer .1))
+  written-where-room h =
+      by-value capacity room source v e ∙ rw (le-leb (length (print (canonical v))) room h, le-leb (length (print (canonical v))) sourceLimit (no-longer .1))
 
   -- so an output as long as the plan is always enough
   pub enough-room : length source ≤ room → canonicalBytes capacity room source ≡ ok (print (canonical v))
@@ -142,7 +146,8 @@ same-table room source bytes t v is-read e =
     let first : t₁ ≡ flat (tableOf v) ++ rest = after-accepted source t v is-read in
     let capacity : capacityOf t₁ ≡ capacityOf t = ap (λ (n : ℕ). n / width) (after-length source t) in
     let size : length (flat (tableOf v)) ≡ nodes v * width = flat-length (tableOf v) ∙ ap (λ (n : ℕ). n * width) (tableOf-length v) in
-    let again : read (capacityOf t₁) bytes ≡ ok (canonical v) = ap (λ (c : ℕ). read c bytes) capacity ∙ read-again (capacityOf t) room source bytes e ∙ ap (λ (u : Value). ok (canonical u)) one in
+    let again : read (capacityOf t₁) bytes ≡ ok (canonical v) =
+    ap (λ (c : ℕ). read c bytes) capacity ∙ read-again (capacityOf t) room source bytes e ∙ ap (λ (u : Value). ok (canonical u)) one in
     record {
       nodes = tableOf v;
       counted = tableOf-length v;
@@ -150,6 +155,7 @@ same-table room source bytes t v is-read e =
       rest = rest;
       first = first;
       second = after-accepted bytes t₁ (canonical v) again
-          ∙ ap (λ (l : List ℕ). flat (tableOf (canonical v)) ++ l) (ap₂ (λ (n : ℕ) (l : List ℕ). drop (n * width) l) (nodes-canonical v) first ∙ drop-at (flat (tableOf v)) rest (nodes v * width) size);
+          ∙ ap (λ (l : List ℕ). flat (tableOf (canonical v)) ++ l)
+          (ap₂ (λ (n : ℕ) (l : List ℕ). drop (n * width) l) (nodes-canonical v) first ∙ drop-at (flat (tableOf v)) rest (nodes v * width) size);
       same = canonical-table v;
     }

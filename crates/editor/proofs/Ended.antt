@@ -61,7 +61,8 @@ untouched {bytes} {part = part} measured out = go part (ap length (measured .tex
 pub puts-on : {bytes out out₁ : List ℕ} {n : ℕ} {out′ : List ℕ} → out₁ ≡ out → Puts bytes 0 out₁ n out′ → Puts bytes 0 out n out′
 puts-on {bytes} {n = n} {out′} e p = subst (λ (o : List ℕ). Puts bytes 0 o n out′) e p
 
-pub writes-on : {text : Answer (List ℕ)} {source before after out out₁ : List ℕ} {r : Writing} → out₁ ≡ out → Writes text source before after out out r → Writes text source before after out out₁ r
+pub writes-on : {text : Answer (List ℕ)} {source before after out out₁ : List ℕ} {r : Writing} → out₁ ≡ out → Writes text source before after out out r
+    → Writes text source before after out out₁ r
 writes-on {text} {source} {before} {after} {out} {r = r} e w = subst (λ (o : List ℕ). Writes text source before after out o r) (sym e) w
 
 -- a text for which there is room, put in front
@@ -88,13 +89,16 @@ module _ {bytes : List ℕ} {n : ℕ} {out out′ : List ℕ} (put : Puts bytes 
 
 module _ {text : Answer (List ℕ)} (source before out : List ℕ) where
   -- the definition's own refusal, with nothing written
-  pub writes-refused : {after : List ℕ} {code at : ℕ} → text ≡ refused code at → after ≡ cleared before → Writes text source before after out out (Writing.Refused code at)
+  pub writes-refused : {after : List ℕ} {code at : ℕ} → text ≡ refused code at → after ≡ cleared before
+      → Writes text source before after out out (Writing.Refused code at)
   unfolding answerOf
   writes-refused {after} {code} {at} e t =
-      subst (λ (c : Answer (List ℕ)). Writes c source before after out out (Writing.Refused code at)) (sym e) (record { answer = refl; leaves = record { table = t; output = refl } })
+      subst (λ (c : Answer (List ℕ)). Writes c source before after out out (Writing.Refused code at)) (sym e)
+      (record { answer = refl; leaves = record { table = t; output = refl } })
 
   -- 14, the plan having been read
-  pub writes-refusal : {between after : List ℕ} {r : Writing} → between ≡ tableAfter source before → text ≡ refused 14 0 → Refuses between after r → Writes text source before after out out r
+  pub writes-refusal : {between after : List ℕ} {r : Writing} → between ≡ tableAfter source before → text ≡ refused 14 0 → Refuses between after r
+      → Writes text source before after out out r
   writes-refusal {between} {after} {r} t e f =
       subst (Writes text source before after out out) (sym (f .answer))
       (writes-refused e (f .table ∙ ap (λ (k : ℕ). replicate k 0) (ap length t ∙ after-length source before)))
@@ -103,7 +107,8 @@ module _ {text : Answer (List ℕ)} (source before out : List ℕ) where
     roomed : (b : Bool) → fitsIn (length out) (length bytes) ≡ b → text ≡ (require b 14 0 >>= λ u. ok bytes)
     roomed b f = e ∙ ap (λ (b : Bool). require b 14 0 >>= λ u. ok bytes) f
 
-    pub writes-text : {between : List ℕ} → between ≡ tableAfter source before → fitsIn (length out) (length bytes) ≡ true → {n : ℕ} {out′ : List ℕ} → Puts bytes 0 out n out′ → {after : List ℕ} {r : Writing} → Settles (take n out′) between after r
+    pub writes-text : {between : List ℕ} → between ≡ tableAfter source before → fitsIn (length out) (length bytes) ≡ true → {n : ℕ} {out′ : List ℕ}
+        → Puts bytes 0 out n out′ → {after : List ℕ} {r : Writing} → Settles (take n out′) between after r
         → Writes text source before after out out′ r
     unfolding answerOf
     writes-text t f {n} {out′} put {after} {r} c =
@@ -117,7 +122,8 @@ module _ {text : Answer (List ℕ)} (source before out : List ℕ) where
 pub is-short : (room source key value : ℕ) → sourceLimit ≤ room → source ≤ 49000 → key ≤ 2000 → leb value 2000 ≡ true → Short room source key value
 is-short room source key value h i j e = record { enough = h; low = omega (arith, i, j, leb→le value 2000 (T-of e)) }
 
-short-room : {room : ℕ} (source : List ℕ) (e : Edit) (key value : List ℕ) → Short room (length source) (length key) (length value) → Sound source e key value → writable (length source) e (length key) (length value) ≡ true → true ≡ fitsIn room (length (editedText source e key value))
+short-room : {room : ℕ} (source : List ℕ) (e : Edit) (key value : List ℕ) → Short room (length source) (length key) (length value) → Sound source e key value
+    → writable (length source) e (length key) (length value) ≡ true → true ≡ fitsIn room (length (editedText source e key value))
 short-room {room} source e key value h z f =
     let n : ℕ = length (editedText source e key value) in
     let m : n ≤ sourceLimit = omega (arith, edited-most source e key value f (z .parted), h .low) in
@@ -130,10 +136,12 @@ shrinks-room : (room : ℕ) (source : List ℕ) → fitsIn room (length source) 
 shrinks-room room source h =
     let n : ℕ = length (canonicalText source) in
     let i : length source ≤ room = leb→le (length source) room (and-left (leb (length source) room) (leb (length source) sourceLimit) (T-of h)) in
-    let j : length source ≤ sourceLimit = leb→le (length source) sourceLimit (and-right (leb (length source) room) (leb (length source) sourceLimit) (T-of h)) in
+    let j : length source ≤ sourceLimit =
+    leb→le (length source) sourceLimit (and-right (leb (length source) room) (leb (length source) sourceLimit) (T-of h)) in
     sym (rw (le-leb n room (omega (arith, canonical-text-most source, i)), le-leb n sourceLimit (omega (arith, canonical-text-most source, j))))
 
-pub spared-room : {room : ℕ} (source : List ℕ) (e : Edit) (key value : List ℕ) → Spared room e (length source) (length key) (length value) → Sound source e key value → writable (length source) e (length key) (length value) ≡ true → true ≡ fitsIn room (length (editedText source e key value))
+pub spared-room : {room : ℕ} (source : List ℕ) (e : Edit) (key value : List ℕ) → Spared room e (length source) (length key) (length value)
+    → Sound source e key value → writable (length source) e (length key) (length value) ≡ true → true ≡ fitsIn room (length (editedText source e key value))
 spared-room {room} source Edit.Canonical key value (shrinks h) z f = shrinks-room room source h
 spared-room source e key value (short h) z f = short-room source e key value h z f
 
@@ -142,18 +150,22 @@ module _ (source : List ℕ) (e : Edit) (key value : List ℕ) where
   pub unfit-roomed : {out part : List ℕ} → Kept source e key value [] part → Roomed source e key value out (part ++ out) false
   unfit-roomed {out} k = record { same = ap (λ (p : List ℕ). p ++ out) (k .same); room = λ w. absurd (differ (sym w ∙ k .unfit)) }
 
-  pub measured-roomed : (out : List ℕ) {n : ℕ} {part : List ℕ} → Puts (editedText source e key value) 0 [] n part → {r : Bool} → r ≡ fitsIn (length out) n → Roomed source e key value out (part ++ out) r
+  pub measured-roomed : (out : List ℕ) {n : ℕ} {part : List ℕ} → Puts (editedText source e key value) 0 [] n part → {r : Bool} → r ≡ fitsIn (length out) n
+      → Roomed source e key value out (part ++ out) r
   measured-roomed out put i = record { same = untouched put out; room = λ w. i ∙ ap (fitsIn (length out)) (size put) }
 
 -- what was said of the room
 module _ {source : List ℕ} {e : Edit} {key value out out′ : List ℕ} {r : Bool} (g : Roomed source e key value out out′ r) where
-  pub room-there : r ≡ true → writable (length source) e (length key) (length value) ≡ true → fitsIn (length out) (length (editedText source e key value)) ≡ true
+  pub room-there : r ≡ true → writable (length source) e (length key) (length value) ≡ true
+      → fitsIn (length out) (length (editedText source e key value)) ≡ true
   room-there i w = sym (g .room w) ∙ i
 
-  pub room-missing : r ≡ false → writable (length source) e (length key) (length value) ≡ true → false ≡ fitsIn (length out) (length (editedText source e key value))
+  pub room-missing : r ≡ false → writable (length source) e (length key) (length value) ≡ true
+      → false ≡ fitsIn (length out) (length (editedText source e key value))
   room-missing i w = sym i ∙ g .room w
 
-module _ {source : List ℕ} {e : Edit} {key value : List ℕ} (z : Sound source e key value) {text : Answer (List ℕ)} (room : ℕ) (f : text ≡ withRoom room (editedText source e key value)) where
+module _ {source : List ℕ} {e : Edit} {key value : List ℕ} (z : Sound source e key value) {text : Answer (List ℕ)} (room : ℕ)
+    (f : text ≡ withRoom room (editedText source e key value)) where
   no-room : fitsIn room (length (editedText source e key value)) ≡ false → text ≡ refused 14 0
   no-room g = f ∙ ap (λ (b : Bool). require b 14 0 >>= λ u. ok (editedText source e key value)) g
 
@@ -174,7 +186,8 @@ module _ {source : List ℕ} {e : Edit} {key value : List ℕ} (z : Sound source
       by (above h) (below i) = too-long (z .value) i
       by (above h) (above i) = absurd (differ (sym (by-place (length source) e (length key) (length value) (z .short) h i ∙ z .place) ∙ g))
 
-  pub full-14 : (writable (length source) e (length key) (length value) ≡ true → false ≡ fitsIn room (length (editedText source e key value))) → text ≡ refused 14 0
+  pub full-14 : (writable (length source) e (length key) (length value) ≡ true → false ≡ fitsIn room (length (editedText source e key value)))
+      → text ≡ refused 14 0
   full-14 g = by (writable (length source) e (length key) (length value)) refl
     where
       by : (b : Bool) → writable (length source) e (length key) (length value) ≡ b → text ≡ refused 14 0
@@ -198,10 +211,17 @@ module _ (capacity : ℕ) (source : List ℕ) (v : Value) (e : read capacity sou
 
   canonical-text : canonicalText source ≡ print (canonical v)
   canonical-text =
-      ap (changedText Change.Canonical) (between-stretch whole-plan) ∙ ap (λ (ts : List Token). writeTokens ts []) (sym (tokens-canonical v)) ∙ tokens-write (canonical v) []
+      ap (changedText Change.Canonical) (between-stretch whole-plan) ∙ ap (λ (ts : List Token). writeTokens ts []) (sym (tokens-canonical v))
+      ∙ tokens-write (canonical v) []
 
   pub canonical-sound : Sound source Edit.Canonical [] []
-  canonical-sound = record { short = omega (arith, plan .fits .valid .short, ap length (plan .printed)); place = refl; parted = λ p i. absurd (never i); key = omega arith; value = omega arith }
+  canonical-sound = record {
+    short = omega (arith, plan .fits .valid .short, ap length (plan .printed));
+    place = refl;
+    parted = λ p i. absurd (never i);
+    key = omega arith;
+    value = omega arith;
+  }
     where
       never : {p : Spot} → Edit.Canonical ≡ Edit.Insert p → ⊥
       never i = let z : _≡_ {A = ℕ} 0 1 = cc in omega arith
@@ -211,8 +231,17 @@ module _ (capacity : ℕ) (source : List ℕ) (v : Value) (e : read capacity sou
 
 -- ---- inserting
 
-pub insert-sound : {source : List ℕ} {node place : ℕ} {key value before after : List ℕ} {p : Spot} → Located source node place key value before after p → Sound source (Edit.Insert p) key value
-insert-sound {source} {key = key} {value} {p = p} l = let t = texts-inside source key value p in record { short = l .short; place = l .stands; parted = λ q i. subst (Parted source) (one i) (l .parted); key = t .0; value = t .1 }
+pub insert-sound : {source : List ℕ} {node place : ℕ} {key value before after : List ℕ} {p : Spot} → Located source node place key value before after p
+    → Sound source (Edit.Insert p) key value
+insert-sound {source} {key = key} {value} {p = p} l =
+    let t = texts-inside source key value p in
+    record {
+      short = l .short;
+      place = l .stands;
+      parted = λ q i. subst (Parted source) (one i) (l .parted);
+      key = t .0;
+      value = t .1;
+    }
   where
     one : {q r : Spot} → Edit.Insert q ≡ Edit.Insert r → q ≡ r
     one i = cc

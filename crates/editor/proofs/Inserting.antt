@@ -5,7 +5,6 @@ use mathlib.Core.List.{List, [], _∷_, _++_, map, append-assoc}
 use Rattle.format.specs.Tree.{count, nodes, ordinals}
 use Rattle.format.specs.Syntax.{Head, own}
 use Rattle.format.specs.Answer.{ok}
-use Rattle.format.specs.Read.{read}
 use Rattle.format.specs.Table.{width}
 use Rattle.format.specs.Reading.{capacityOf, answer, tableAfter}
 use Rattle.format.specs.Edit.{countShortest, newOrdinal, insert}
@@ -14,14 +13,16 @@ use Rattle.format.proofs.Results.{after-length}
 use Rattle.format.proofs.Unique.{accepted-exactly}
 use Rattle.insertion.proofs.Inserting.{Inserted, inserted}
 use Rattle.insertion.proofs.Located.{locates}
-use Rattle.tokens.specs.Tokens.{Token, scalar, opening, closing, keyScalar, tokens, tokensIn, writeTokens, raisedToken, nodesOf}
+use Rattle.tokens.specs.Tokens.{Token, scalar, opening, closing, keyScalar, tokensIn, writeTokens, raisedToken, nodesOf}
 use Rattle.tokens.proofs.TokenLaws.{tokens-write}
 use Rattle.placing.proofs.PairParts.{upto, after}
 use Rattle.placing.proofs.Sites.{site-tokens, parts}
 use Rattle.placing.proofs.Gaps.{new-tokens}
 
--- "All other bytes are the old ones": the tokens of the plan given and of the bytes written. The head is that of the array asked for, and `middle` are its pairs before the place
-pub record Kept {capacity room : ℕ} {source : List ℕ} {node place : ℕ} {key value bytes : List ℕ} (i : Inserted capacity room source node place key value bytes) : Type 0 where
+-- "All other bytes are the old ones": the tokens of the plan given and of the bytes written. The head is that of the array asked for, and `middle` are its
+-- pairs before the place
+pub record Kept {capacity room : ℕ} {source : List ℕ} {node place : ℕ} {key value bytes : List ℕ}
+    (i : Inserted capacity room source node place key value bytes) : Type 0 where
   pub front : List Token
   pub head : Head
   pub middle : List Token
@@ -34,7 +35,8 @@ pub record Kept {capacity room : ℕ} {source : List ℕ} {node place : ℕ} {ke
   pub before : nodesOf front ≡ node
   pub pairs : middle ≡ tokensIn (upto place (i .site .pairs))
 
--- DEMAND 3, "Inserting a pair gives a plan that, read afresh, means the old one with that pair at that place, every old reference still naming the value it named. All other bytes are the old ones."
+-- DEMAND 3, "Inserting a pair gives a plan that, read afresh, means the old one with that pair at that place, every old reference still naming the value it
+-- named. All other bytes are the old ones."
 pub record Preserved (room : ℕ) (t source : List ℕ) (node place : ℕ) (key value bytes : List ℕ) : Type 0 where
   -- the bytes are an accepted plan, with that meaning and those numbers
   pub plan : Inserted (capacityOf t) room source node place key value bytes
@@ -53,14 +55,16 @@ kept {node = node} {place} i =
       back = tokensIn (after place (i .site .pairs)) ++ (closing ∷ st .back);
       old-bytes = i .was .printed ∙ sym (tokens-write (i .old) []) ∙ ap (λ (l : List Token). writeTokens l []) (st .split
           ∙ ap (λ (l : List Token). st .front ++ (opening (st .head) (count (i .site .pairs)) ∷ l))
-          (ap (λ (l : List Token). l ++ (closing ∷ st .back)) (parts place (i .site .pairs)) ∙ append-assoc (tokensIn (upto place (i .site .pairs))) (tokensIn (after place (i .site .pairs))) (closing ∷ st .back)));
+          (ap (λ (l : List Token). l ++ (closing ∷ st .back)) (parts place (i .site .pairs))
+          ∙ append-assoc (tokensIn (upto place (i .site .pairs))) (tokensIn (after place (i .site .pairs))) (closing ∷ st .back)));
       new-bytes = i .text ∙ sym (tokens-write (insert (i .site .path) place (i .k) (i .x) (i .old)) [])
           ∙ ap (λ (l : List Token). writeTokens l []) (new-tokens (i .old) node (i .site) (i .at) place (i .k) (i .x));
       before = st .nodes;
       pairs = refl;
     }
 
-pub demand-3 : (room : ℕ) (t source : List ℕ) (node place : ℕ) (key value bytes : List ℕ) → insertBytes (capacityOf t) room source node place key value ≡ ok bytes → Preserved room t source node place key value bytes
+pub demand-3 : (room : ℕ) (t source : List ℕ) (node place : ℕ) (key value bytes : List ℕ)
+    → insertBytes (capacityOf t) room source node place key value ≡ ok bytes → Preserved room t source node place key value bytes
 unfolding answer
 demand-3 room t source node place key value bytes e =
     let i = inserted (capacityOf t) room source node place key value bytes e in

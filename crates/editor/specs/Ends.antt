@@ -49,4 +49,6 @@ pub record Roomed (s : List ℕ) (e : Edit) (key value out out′ : List ℕ) (r
 
 -- the answer, the table and the output, the bytes to write being known
 abbrev pub Finishes : (s : List ℕ) → Edit → (key value t t′ out out′ : List ℕ) → Writing → Type 0
-Finishes s e key value t t′ out out′ r = (before : List ℕ) (text : Answer (List ℕ)) → t ≡ tableAfter s before → text ≡ withRoom (length out) (editedText s e key value) → Writes text s before t′ out out′ r
+Finishes s e key value t t′ out out′ r =
+    (before : List ℕ) (text : Answer (List ℕ)) → t ≡ tableAfter s before → text ≡ withRoom (length out) (editedText s e key value)
+    → Writes text s before t′ out out′ r

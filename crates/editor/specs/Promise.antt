@@ -16,7 +16,8 @@ unfoldable pub answerOf : Writing → Answer ℕ
 answerOf (Writing.Written length) = ok length
 answerOf (Writing.Refused code at) = refused code at
 
--- "A service that writes a plan leaves the table that reading the plan given, if there was one, and then the plan written leaves"; "makes every word of the table zero"
+-- "A service that writes a plan leaves the table that reading the plan given, if there was one, and then the plan written leaves"; "makes
+-- every word of the table zero"
 abbrev pub tableWritten : Answer (List ℕ) → (source table : List ℕ) → List ℕ
 tableWritten (ok bytes) source t = tableAfter bytes (tableAfter source t)
 tableWritten (refused n p) source t = cleared t

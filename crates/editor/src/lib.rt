@@ -112,7 +112,8 @@ fn write_plan(
     out: &mut [u8],
 ) -> Writing
     requires { ⌜ Sound (now source) edit (now key) (now value) ⌝ }
-    ensures { λ r. ⌜ Finishes (now (source .entry)) edit (now (key .entry)) (now (value .entry)) (now (table .entry)) (now (table .exit)) (now (out .entry)) (now (out .exit)) r ⌝ }
+    ensures { λ r. ⌜ Finishes (now (source .entry)) edit (now (key .entry)) (now (value .entry))
+        (now (table .entry)) (now (table .exit)) (now (out .entry)) (now (out .exit)) r ⌝ }
 {
     if !room_for(source, edit, key, value, out) {
         return refuse(table);
@@ -127,7 +128,8 @@ fn write_plan(
 
 // Retyping: writes the canonical text of a plan, and leaves the table that reading it leaves. A refusal writes nothing, and makes every word of the table zero.
 pub fn canonicalize(source: &[u8], table: &mut [u64], out: &mut [u8]) -> Writing
-    ensures { λ r. ⌜ Writes (canonicalBytes (capacityOf (now (table .entry))) (length (now (out .entry))) (now (source .entry))) (now (source .entry)) (now (table .entry)) (now (table .exit)) (now (out .entry)) (now (out .exit)) r ⌝ }
+    ensures { λ r. ⌜ Writes (canonicalBytes (capacityOf (now (table .entry))) (length (now (out .entry))) (now (source .entry)))
+        (now (source .entry)) (now (table .entry)) (now (table .exit)) (now (out .entry)) (now (out .exit)) r ⌝ }
 {
     match reader::read(source, table) {
         Reading::Refused { code, at } => Writing::Refused { code, at },
@@ -152,7 +154,9 @@ pub fn insert(
     table: &mut [u64],
     out: &mut [u8],
 ) -> Writing
-    ensures { λ r. ⌜ Writes (insertBytes (capacityOf (now (table .entry))) (length (now (out .entry))) (now (source .entry)) «array_node» «pair_index» (now (key .entry)) (now (value .entry))) (now (source .entry)) (now (table .entry)) (now (table .exit)) (now (out .entry)) (now (out .exit)) r ⌝ }
+    ensures { λ r. ⌜ Writes (insertBytes (capacityOf (now (table .entry))) (length (now (out .entry))) (now (source .entry))
+        «array_node» «pair_index» (now (key .entry)) (now (value .entry)))
+        (now (source .entry)) (now (table .entry)) (now (table .exit)) (now (out .entry)) (now (out .exit)) r ⌝ }
 {
     match locate(source, array_node, pair_index, key, value, table) {
         Placing::Refused { code, at } => Writing::Refused { code, at },

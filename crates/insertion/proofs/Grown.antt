@@ -35,7 +35,13 @@ module _ {old new : List TreePath} {n : ℕ} {move : TreePath → TreePath} {pat
   }
 
   grown-head : move [] ≡ [] → Grown ([] ∷ old) ([] ∷ new) (suc n) move path
-  grown-head e = record { left = [] ∷ g .left; right = g .right; was = ap {B = List TreePath} (λ x. [] ∷ x) (g .was); size = ap suc (g .size); is = rw (g .is, e) }
+  grown-head e = record {
+    left = [] ∷ g .left;
+    right = g .right;
+    was = ap {B = List TreePath} (λ x. [] ∷ x) (g .was);
+    size = ap suc (g .size);
+    is = rw (g .is, e);
+  }
 
   grown-back : (xs : List TreePath) → map move xs ≡ xs → Grown (old ++ xs) (new ++ xs) n move path
   grown-back xs e = record {
@@ -46,7 +52,8 @@ module _ {old new : List TreePath} {n : ℕ} {move : TreePath → TreePath} {pat
     is = rw (g .is, map-append move (g .right) xs, e) (append-assoc (map move (g .left)) (path ∷ map move (g .right)) xs);
   }
 
-  map-down : (q : ℕ) (move′ : TreePath → TreePath) → ((a : TreePath) → move′ (q ∷ a) ≡ q ∷ move a) → (xs : List TreePath) → down q (map move xs) ≡ map move′ (down q xs)
+  map-down : (q : ℕ) (move′ : TreePath → TreePath) → ((a : TreePath) → move′ (q ∷ a) ≡ q ∷ move a) → (xs : List TreePath)
+      → down q (map move xs) ≡ map move′ (down q xs)
   map-down q move′ e [] = refl
   map-down q move′ e (a ∷ xs) = ap₂ {C = List TreePath} _∷_ (sym (e a)) (map-down q move′ e xs)
 
@@ -56,7 +63,13 @@ module _ {old new : List TreePath} {n : ℕ} {move : TreePath → TreePath} {pat
     right = down q (g .right);
     was = ap (down q) (g .was) ∙ map-append (λ (a : TreePath). q ∷ a) (g .left) (g .right);
     size = length-map (g .left) (λ (a : TreePath). q ∷ a) ∙ g .size;
-    is = rw (g .is, map-append (λ (a : TreePath). q ∷ a) (map move (g .left)) (path ∷ map move (g .right)), map-down q move′ e (g .left), map-down q move′ e (g .right));
+    is =
+        rw (
+          g .is,
+          map-append (λ (a : TreePath). q ∷ a) (map move (g .left)) (path ∷ map move (g .right)),
+          map-down q move′ e (g .left),
+          map-down q move′ e (g .right),
+        );
   }
 
   -- ---- what an entry is afterwards
@@ -86,7 +99,8 @@ module _ {old new : List TreePath} {n : ℕ} {move : TreePath → TreePath} {pat
         let b : i ≡ length (g .left) + (i - n) = omega (arith, g .size) in
         ap (λ (xs : List TreePath). getD xs (suc i) []) (g .is) ∙ ap (λ (m : ℕ). getD (map move (g .left) ++ (path ∷ map move (g .right))) m []) a
         ∙ getD-append-add (map move (g .left)) (path ∷ map move (g .right)) (suc (i - n)) [] ∙ moved-entry (g .right) (i - n)
-        ∙ ap move (sym (ap (λ (xs : List TreePath). getD xs i []) (g .was) ∙ ap (λ (m : ℕ). getD (g .left ++ g .right) m []) b ∙ getD-append-add (g .left) (g .right) (i - n) []))
+        ∙ ap move (sym (ap (λ (xs : List TreePath). getD xs i []) (g .was) ∙ ap (λ (m : ℕ). getD (g .left ++ g .right) m []) b
+        ∙ getD-append-add (g .left) (g .right) (i - n) []))
 
 -- ---- what a shift moves
 moved-above : (p q : ℕ) → p ≤ q → (xs : List TreePath) → map (shift [] p) (down q xs) ≡ down (suc q) xs
@@ -111,13 +125,15 @@ shift-empty (q ∷ a) p = refl
 -- from place q on, and the new pair at p or before
 moved-all : (p q : ℕ) → p ≤ q → (ps : Values) → map (shift [] p) (pathsIn own q ps) ≡ pathsIn own (suc q) ps
 moved-all p q h none = refl
-moved-all p q h (pair k v ps) = map-append (shift [] p) (down q (paths own v)) (pathsIn own (suc q) ps) ∙ ap₂ _++_ (moved-above p q h (paths own v)) (moved-all p (suc q) (omega arith) ps)
+moved-all p q h (pair k v ps) =
+    map-append (shift [] p) (down q (paths own v)) (pathsIn own (suc q) ps) ∙ ap₂ _++_ (moved-above p q h (paths own v)) (moved-all p (suc q) (omega arith) ps)
 
 -- from place q on, and the new pair in the value at an earlier one
 fixed-all : (b q : ℕ) (a : TreePath) (p : ℕ) → b < q → (ps : Values) → map (shift (b ∷ a) p) (pathsIn own q ps) ≡ pathsIn own q ps
 fixed-all b q a p h none = refl
 fixed-all b q a p h (pair k v ps) =
-    map-append (shift (b ∷ a) p) (down q (paths own v)) (pathsIn own (suc q) ps) ∙ ap₂ _++_ (shift-other b q a p (λ e. omega arith) (paths own v)) (fixed-all b (suc q) a p (omega arith) ps)
+    map-append (shift (b ∷ a) p) (down q (paths own v)) (pathsIn own (suc q) ps)
+    ∙ ap₂ _++_ (shift-other b q a p (λ e. omega arith) (paths own v)) (fixed-all b (suc q) a p (omega arith) ps)
 
 -- ---- one pair more
 down-length : (q : ℕ) (v : Value) → length (down q (paths own v)) ≡ ordinals own v
@@ -132,11 +148,14 @@ module _ (f : Head → Head) (p : ℕ) (k : Key) (x : Scalar) where
     right = pathsIn own b ps;
     was = refl;
     size = refl;
-    is = ap (λ (m : ℕ). (m ∷ []) ∷ pathsIn own (suc b) ps) {y = q} (omega arith) ∙ ap {B = List TreePath} (λ xs. (q ∷ []) ∷ xs) (sym (moved-all q b (omega arith) ps));
+    is =
+        ap (λ (m : ℕ). (m ∷ []) ∷ pathsIn own (suc b) ps) {y = q} (omega arith)
+        ∙ ap {B = List TreePath} (λ xs. (q ∷ []) ∷ xs) (sym (moved-all q b (omega arith) ps));
   }
   grown-pairs (suc p) b q e none h = absurd (omega arith)
   grown-pairs (suc p) b q e (pair j v ps) h =
-      grown-front (grown-pairs p (suc b) q (omega arith) ps (omega arith)) (down b (paths own v)) (ordinals own v) (down-length b v) (fixed-below q b (omega arith) (paths own v))
+      grown-front (grown-pairs p (suc b) q (omega arith) ps (omega arith)) (down b (paths own v)) (ordinals own v) (down-length b v)
+      (fixed-below q b (omega arith) (paths own v))
 
   abbrev put : TreePath → Value → Value
   put a v = atPath f (putPair p k (leaf x)) a v
@@ -149,9 +168,11 @@ module _ (f : Head → Head) (p : ℕ) (k : Key) (x : Scalar) where
     grown (inside h {q = q} w) m = grown-head (grown-in w 0 q (omega arith) m) refl
 
     grown-in : {ps : Values} {i q : ℕ} {a : TreePath} {qs : Values} → LocatesIn ps i q a qs → (b t : ℕ) → b + q ≡ t → p ≤ count qs
-        → Grown (pathsIn own b ps) (pathsIn own b (atPlace q (put a) ps)) (ordinalsWithin own q (ordinalsBefore own a p) ps) (shift (t ∷ a) p) (t ∷ (a ++ (p ∷ [])))
+        → Grown (pathsIn own b ps) (pathsIn own b (atPlace q (put a) ps)) (ordinalsWithin own q (ordinalsBefore own a p) ps) (shift (t ∷ a) p)
+        (t ∷ (a ++ (p ∷ [])))
     grown-in (first k ps {a = a} w) b t e m =
         let d : b ≡ t = omega arith in
         rw d (grown-back (grown-down (grown w m) t (shift (t ∷ a) p) (shift-same t a p)) (pathsIn own (suc t) ps) (fixed-all t (suc t) a p (omega arith) ps))
     grown-in (later k v {q = q} {a = a} d w) b t e m =
-        grown-front (grown-in w (suc b) t (omega arith) m) (down b (paths own v)) (ordinals own v) (down-length b v) (shift-other t b a p (λ c. omega arith) (paths own v))
+        grown-front (grown-in w (suc b) t (omega arith) m) (down b (paths own v)) (ordinals own v) (down-length b v)
+        (shift-other t b a p (λ c. omega arith) (paths own v))

@@ -62,12 +62,14 @@ pub record Inserted (capacity room : ℕ) (source : List ℕ) (node place : ℕ)
   pub ordinals-more : ordinals own (insert (site .path) place k x old) ≡ suc (ordinals own old)
   pub short : length bytes ≤ room
 
-means-more : (source bytes : List ℕ) (v w : Value) (f : Meaning → Meaning) → Valid v → source ≡ print v → Valid w → bytes ≡ print w → meaning w ≡ f (meaning v) → (m : Meaning) → Means source m → Means bytes (f m)
+means-more : (source bytes : List ℕ) (v w : Value) (f : Meaning → Meaning) → Valid v → source ≡ print v → Valid w → bytes ≡ print w → meaning w ≡ f (meaning v)
+    → (m : Meaning) → Means source m → Means bytes (f m)
 means-more source bytes v w f a s b t e m n =
     let same : meaning v ≡ m = one-meaning source (meaning v) m (record { syntax = v; valid = a; printed = s; is = refl }) n in
     record { syntax = w; valid = b; printed = t; is = e ∙ ap f same }
 
-pub inserted : (capacity room : ℕ) (source : List ℕ) (node place : ℕ) (key value bytes : List ℕ) → insertBytes capacity room source node place key value ≡ ok bytes → Inserted capacity room source node place key value bytes
+pub inserted : (capacity room : ℕ) (source : List ℕ) (node place : ℕ) (key value bytes : List ℕ)
+    → insertBytes capacity room source node place key value ≡ ok bytes → Inserted capacity room source node place key value bytes
 unfolding insertBytes
 inserted capacity room source node place key value bytes e =
     let a = bind-ok (read capacity source) _ bytes e in
@@ -89,11 +91,13 @@ inserted capacity room source node place key value bytes e =
     let kt = key-of key k (d .1) in
     let xt = scalar-of value x (f .1) in
     let new : T (not (hasKey k (keys (s .pairs)))) = require-ok (not (hasKey k (keys (s .pairs)))) 9 0 (g .0) (g .1) in
-    let deep : suc (length (s .path)) < depthLimit = ltb→lt (suc (length (s .path))) depthLimit (require-ok (ltb (suc (length (s .path))) depthLimit) 8 0 (h .0) (h .1)) in
+    let deep : suc (length (s .path)) < depthLimit =
+    ltb→lt (suc (length (s .path))) depthLimit (require-ok (ltb (suc (length (s .path))) depthLimit) 8 0 (h .0) (h .1)) in
     let small : nodes v + 2 ≤ capacity = leb→le (nodes v + 2) capacity (require-ok (leb (nodes v + 2) capacity) 7 0 (i .0) (i .1)) in
     let fits : T (fitsIn room (length (print w))) = require-ok (fitsIn room (length (print w))) 14 0 (j .0) (j .1) in
     let short : length (print w) ≤ room = leb→le (length (print w)) room (and-left (leb (length (print w)) room) (leb (length (print w)) sourceLimit) fits) in
-    let limit : length (print w) ≤ sourceLimit = leb→le (length (print w)) sourceLimit (and-right (leb (length (print w)) room) (leb (length (print w)) sourceLimit) fits) in
+    let limit : length (print w) ≤ sourceLimit =
+    leb→le (length (print w)) sourceLimit (and-right (leb (length (print w)) room) (leb (length (print w)) sourceLimit) fits) in
     let way = locates v node s (b .1) in
     let valid : Valid w = insert-valid way place within k x (kt .1) (xt .1) new deep limit (was .fits .valid) in
     let more : nodes w ≡ nodes v + 2 = nodes-insert way place within k x in
@@ -112,7 +116,9 @@ inserted capacity room source node place key value bytes e =
       value-fits = xt .1;
       text = refl;
       plan = record { printed = refl; fits = record { valid = valid; small = omega arith } };
-      means = means-more source (print w) v w (insertMeaning (s .path) place (keyMeaning k) (scalarMeaning x)) (was .fits .valid) (was .printed) valid refl (meaning-insert way place within k x (was .fits .valid));
+      means =
+          means-more source (print w) v w (insertMeaning (s .path) place (keyMeaning k) (scalarMeaning x)) (was .fits .valid) (was .printed) valid refl
+          (meaning-insert way place within k x (was .fits .valid));
       numbered = record { newest = new-number way place within k x; lower = lower-numbers way place within k x; higher = higher-numbers way place within k x };
       nodes-more = more;
       ordinals-more = ordinals-insert way place within k x;

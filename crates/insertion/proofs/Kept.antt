@@ -12,7 +12,8 @@ use Rattle.format.specs.Syntax.{Key, Scalar, Container, Reference, Value, Value
 use Rattle.format.specs.Keys.{sameKey, hasKey}
 use Rattle.format.specs.Limits.{sourceLimit, depthLimit, Seen, unseen}
 use Rattle.format.specs.Fits.{KeyFits, ScalarFits, allowed, Sound, SoundIn, Backward, BackwardIn, Shallow, ShallowIn, Valid}
-use Rattle.format.specs.Edit.{putPair, atPlace, atPath, keys, ordinalsUpto, ordinalsWithin, ordinalsBefore, newOrdinal, raised, renumbered, countShortest, insert}
+use Rattle.format.specs.Edit.{putPair, atPlace, atPath, keys, ordinalsUpto, ordinalsWithin, ordinalsBefore, newOrdinal, raised, renumbered, countShortest}
+use Rattle.format.specs.Edit.{insert}
 use Rattle.format.proofs.Keys.{equal-keys}
 use Rattle.format.proofs.Maps.{nodes-map, ordinals-map}
 use Rattle.format.proofs.OneText.{Taken, paths-length}
@@ -55,7 +56,8 @@ module _ (c : Container) (k : Key) where
     sound-after (j ∷ js) (j ∷ is) ps (widens-more j js is w) (nor-right (sameKey k j) (hasKey k (keys ps)) n) (s .4),
   )
 
-  sound-put : (x : Scalar) → KeyFits k → T (allowed c k) → ScalarFits x → (p : ℕ) (js : List Key) (ps : Values) → T (not (hasKey k js)) → T (not (hasKey k (keys ps))) → SoundIn c js ps → SoundIn c js (putPair p k (leaf x) ps)
+  sound-put : (x : Scalar) → KeyFits k → T (allowed c k) → ScalarFits x → (p : ℕ) (js : List Key) (ps : Values) → T (not (hasKey k js))
+      → T (not (hasKey k (keys ps))) → SoundIn c js ps → SoundIn c js (putPair p k (leaf x) ps)
   sound-put x f a g zero js ps m n s = (f, a, m, g, sound-after js (k ∷ js) ps (λ j y z. nor-T (sameKey j k) (hasKey j js) y z) n s)
   sound-put x f a g (suc p) js none m n s = (f, a, m, g, tt)
   sound-put x f a g (suc p) js (pair j v ps) m n s = (
@@ -63,7 +65,8 @@ module _ (c : Container) (k : Key) where
     s .1,
     s .2,
     s .3,
-    sound-put x f a g p (j ∷ js) ps (nor-T (sameKey k j) (hasKey k js) (nor-left (sameKey k j) (hasKey k (keys ps)) n) m) (nor-right (sameKey k j) (hasKey k (keys ps)) n) (s .4),
+    sound-put x f a g p (j ∷ js) ps (nor-T (sameKey k j) (hasKey k js) (nor-left (sameKey k j) (hasKey k (keys ps)) n) m)
+        (nor-right (sameKey k j) (hasKey k (keys ps)) n) (s .4),
   )
 
 -- ---- renumbering changes neither keys nor depth
@@ -124,7 +127,8 @@ module _ (n : ℕ) where
 
     backward-before-in : (seen : Seen) (ps : Values) → seen + ordinalsIn own ps < n → BackwardIn seen ps → BackwardIn seen (renumberedIn n ps)
     backward-before-in t none m b = tt
-    backward-before-in t (pair k v ps) m b = (backward-before t v (omega arith) (b .0), rw (ordinals-same n v) (backward-before-in (t + ordinals own v) ps (omega arith) (b .1)))
+    backward-before-in t (pair k v ps) m b =
+        (backward-before t v (omega arith) (b .0), rw (ordinals-same n v) (backward-before-in (t + ordinals own v) ps (omega arith) (b .1)))
 
 -- ---- one pair more
 module _ (p : ℕ) (k : Key) (x : Scalar) where
@@ -132,11 +136,13 @@ module _ (p : ℕ) (k : Key) (x : Scalar) where
   put a v = atPath countShortest (putPair p k (leaf x)) a v
 
   mutual
-    sound-put-at : {v : Value} {i : ℕ} {a : TreePath} {qs : Values} → Locates v i a qs → KeyFits k → ScalarFits x → T (not (hasKey k (keys qs))) → Sound v → Sound (put a v)
+    sound-put-at : {v : Value} {i : ℕ} {a : TreePath} {qs : Values} → Locates v i a qs → KeyFits k → ScalarFits x → T (not (hasKey k (keys qs))) → Sound v
+        → Sound (put a v)
     sound-put-at (found h ps c) f g n s = let any : T (allowed (h .container) k) = rw c tt in (s .0, sound-put (h .container) k x f any g p [] ps tt n (s .1))
     sound-put-at (inside h w) f g n s = (s .0, sound-put-in w (h .container) [] f g n (s .1))
 
-    sound-put-in : {ps : Values} {i q : ℕ} {a : TreePath} {qs : Values} → LocatesIn ps i q a qs → (c : Container) (js : List Key) → KeyFits k → ScalarFits x → T (not (hasKey k (keys qs)))
+    sound-put-in : {ps : Values} {i q : ℕ} {a : TreePath} {qs : Values} → LocatesIn ps i q a qs → (c : Container) (js : List Key) → KeyFits k → ScalarFits x
+        → T (not (hasKey k (keys qs)))
         → SoundIn c js ps → SoundIn c js (atPlace q (put a) ps)
     sound-put-in (first j ps w) c js f g n s = (s .0, s .1, s .2, sound-put-at w f g n (s .3), s .4)
     sound-put-in (later j v e w) c js f g n s = (s .0, s .1, s .2, s .3, sound-put-in w c (j ∷ js) f g n (s .4))
@@ -151,7 +157,8 @@ module _ (p : ℕ) (k : Key) (x : Scalar) where
     shallow-put-at (found h ps c) d m s = (s .0, shallow-put p (d - 1) ps (omega arith) (s .1))
     shallow-put-at (inside h w) d m s = (s .0, shallow-put-in w (d - 1) (omega arith) (s .1))
 
-    shallow-put-in : {ps : Values} {i q : ℕ} {a : TreePath} {qs : Values} → LocatesIn ps i q a qs → (d : ℕ) → suc (length a) < d → ShallowIn d ps → ShallowIn d (atPlace q (put a) ps)
+    shallow-put-in : {ps : Values} {i q : ℕ} {a : TreePath} {qs : Values} → LocatesIn ps i q a qs → (d : ℕ) → suc (length a) < d → ShallowIn d ps
+        → ShallowIn d (atPlace q (put a) ps)
     shallow-put-in (first j ps w) d m s = (shallow-put-at w d m (s .0), s .1)
     shallow-put-in (later j v e w) d m s = (s .0, shallow-put-in w d m (s .1))
 
@@ -173,19 +180,22 @@ module _ (p : ℕ) (k : Key) (x : Scalar) where
   ordinals-put {v} {a = a} w m = sym (paths-length own (put a v)) ∙ grown-length (grown countShortest p k x w m) ∙ ap suc (paths-length own v)
 
   module _ (n : ℕ) where
-    backward-put : (p : ℕ) (seen : Seen) (ps : Values) → p ≤ count ps → n ≡ suc (seen + ordinalsUpto own p ps) → BackwardIn seen ps → BackwardIn seen (renumberedIn n (putPair p k (leaf x) ps))
+    backward-put : (p : ℕ) (seen : Seen) (ps : Values) → p ≤ count ps → n ≡ suc (seen + ordinalsUpto own p ps) → BackwardIn seen ps
+        → BackwardIn seen (renumberedIn n (putPair p k (leaf x) ps))
     backward-put zero t ps m e b = let i : t + 1 ≡ suc t = omega arith in (tt, rw i (backward-after-in n t ps b))
     backward-put (suc p) t none m e b = absurd (omega arith)
     backward-put (suc p) t (pair j v ps) m e b =
         (backward-before n t v (omega arith) (b .0), rw (ordinals-same n v) (backward-put p (t + ordinals own v) ps (omega arith) (omega arith) (b .1)))
 
     mutual
-      backward-put-at : {v : Value} {i : ℕ} {a : TreePath} {qs : Values} → Locates v i a qs → p ≤ count qs → (seen : Seen) → n ≡ suc (seen + ordinalsBefore own a p v) → Backward seen v
+      backward-put-at : {v : Value} {i : ℕ} {a : TreePath} {qs : Values} → Locates v i a qs → p ≤ count qs → (seen : Seen)
+          → n ≡ suc (seen + ordinalsBefore own a p v) → Backward seen v
           → Backward seen (renumbered n (put a v))
       backward-put-at (found h ps c) m t e b = backward-put p (suc t) ps m (omega arith) b
       backward-put-at (inside h w) m t e b = backward-put-in w m (suc t) (omega arith) b
 
-      backward-put-in : {ps : Values} {i q : ℕ} {a : TreePath} {qs : Values} → LocatesIn ps i q a qs → p ≤ count qs → (seen : Seen) → n ≡ suc (seen + ordinalsWithin own q (ordinalsBefore own a p) ps) → BackwardIn seen ps
+      backward-put-in : {ps : Values} {i q : ℕ} {a : TreePath} {qs : Values} → LocatesIn ps i q a qs → p ≤ count qs → (seen : Seen)
+          → n ≡ suc (seen + ordinalsWithin own q (ordinalsBefore own a p) ps) → BackwardIn seen ps
           → BackwardIn seen (renumberedIn n (atPlace q (put a) ps))
       backward-put-in (first j {v} ps {a = a} w) m t e b =
           let i : t + suc (ordinals own v) ≡ suc (t + ordinals own v) = omega arith in
@@ -207,7 +217,8 @@ module _ {v : Value} {node : ℕ} {a : TreePath} {qs : Values} (way : Locates v 
   unfolding insert
   backward-insert b = backward-put-at p k x (newOrdinal a p v) way within unseen (omega arith) b
 
-  pub insert-valid : KeyFits k → ScalarFits x → T (not (hasKey k (keys qs))) → suc (length a) < depthLimit → length (print (insert a p k x v)) ≤ sourceLimit → Valid v → Valid (insert a p k x v)
+  pub insert-valid : KeyFits k → ScalarFits x → T (not (hasKey k (keys qs))) → suc (length a) < depthLimit → length (print (insert a p k x v)) ≤ sourceLimit
+      → Valid v → Valid (insert a p k x v)
   unfolding insert
   insert-valid kf xf new deep short f =
       let w : Value = insert a p k x v in

@@ -22,7 +22,8 @@ mutual
   -- in the value at a place: that of the first pair, or of a later one
   pub data LocatesIn : Values → (node place : ℕ) → TreePath → Values → Type 0 where
     first : (k : Key) {v : Value} (ps : Values) {qs : Values} {i : ℕ} {a : TreePath} → Locates v i a qs → LocatesIn (pair k v ps) (suc i) zero a qs
-    later : (k : Key) (v : Value) {ps qs : Values} {i j q : ℕ} {a : TreePath} → j ≡ nodes v + i → LocatesIn ps i q a qs → LocatesIn (pair k v ps) (suc j) (suc q) a qs
+    later : (k : Key) (v : Value) {ps qs : Values} {i j q : ℕ} {a : TreePath} → j ≡ nodes v + i → LocatesIn ps i q a qs
+        → LocatesIn (pair k v ps) (suc j) (suc q) a qs
 
 -- in pairs, the first of which has place q
 record Below (ps : Values) (node q : ℕ) (s : Site) : Type 0 where
@@ -36,12 +37,14 @@ is-array array x e = refl
 is-array (object q) x e = absurd (not-both e)
 
 step : (k : Key) (v : Value) (ps : Values) (i q : ℕ) (s : Site) (b : Bool) → ltb i (nodes v) ≡ b
-    → ((s : Site) → arrayAt i v ≡ ok s → Locates v i (s .path) (s .pairs)) → ((s : Site) → arrayIn (i - nodes v) (suc q) ps ≡ ok s → Below ps (i - nodes v) (suc q) s)
+    → ((s : Site) → arrayAt i v ≡ ok s → Locates v i (s .path) (s .pairs))
+    → ((s : Site) → arrayIn (i - nodes v) (suc q) ps ≡ ok s → Below ps (i - nodes v) (suc q) s)
     → (elim b [ true ↦ arrayAt i v >>= λ s. ok (under q s) | false ↦ arrayIn (i - nodes v) (suc q) ps ]) ≡ ok s → Below (pair k v ps) (suc i) q s
 step k v ps i q s true t f g e =
     let a = bind-ok (arrayAt i v) _ s e in
     let at : q + 0 ≡ q = omega arith in
-    subst (Below (pair k v ps) (suc i) q) (ok-same (a .2)) (record { place = 0; path = a .0 .path; is = ap (λ (m : ℕ). m ∷ a .0 .path) at; way = first k ps (f (a .0) (a .1)) })
+    subst (Below (pair k v ps) (suc i) q) (ok-same (a .2))
+    (record { place = 0; path = a .0 .path; is = ap (λ (m : ℕ). m ∷ a .0 .path) at; way = first k ps (f (a .0) (a .1)) })
 step k v ps i q s false t f g e =
     let past : nodes v ≤ i = ltb-false i (nodes v) t in
     let more : i ≡ nodes v + (i - nodes v) = omega arith in

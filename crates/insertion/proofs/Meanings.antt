@@ -21,12 +21,14 @@ use Rattle.insertion.proofs.Grown.{Grown, grown-new, grown-low, grown-h
 
 -- ---- a change and a map may change places
 module _ {K L H R K′ L′ H′ R′ : Type 0} (fk : K → K′) (fl : L → L′) (fh : H → H′) (fr : R → R′) where
-  map-put : (p : ℕ) (k : K) (v : Tree K L H R) (ps : Pairs K L H R) → mapPairs fk fl fh fr (putPair p k v ps) ≡ putPair p (fk k) (mapTree fk fl fh fr v) (mapPairs fk fl fh fr ps)
+  map-put : (p : ℕ) (k : K) (v : Tree K L H R) (ps : Pairs K L H R)
+      → mapPairs fk fl fh fr (putPair p k v ps) ≡ putPair p (fk k) (mapTree fk fl fh fr v) (mapPairs fk fl fh fr ps)
   map-put zero k v ps = refl
   map-put (suc p) k v none = refl
   map-put (suc p) k v (pair j u ps) = ap (pair (fk j) (mapTree fk fl fh fr u)) (map-put p k v ps)
 
-  map-place : (q : ℕ) (f : Tree K L H R → Tree K L H R) (g : Tree K′ L′ H′ R′ → Tree K′ L′ H′ R′) → ((v : Tree K L H R) → mapTree fk fl fh fr (f v) ≡ g (mapTree fk fl fh fr v))
+  map-place : (q : ℕ) (f : Tree K L H R → Tree K L H R) (g : Tree K′ L′ H′ R′ → Tree K′ L′ H′ R′)
+      → ((v : Tree K L H R) → mapTree fk fl fh fr (f v) ≡ g (mapTree fk fl fh fr v))
       → (ps : Pairs K L H R) → mapPairs fk fl fh fr (atPlace q f ps) ≡ atPlace q g (mapPairs fk fl fh fr ps)
   map-place q f g e none = refl
   map-place zero f g e (pair k v ps) = ap (λ (u : Tree K′ L′ H′ R′). pair (fk k) u (mapPairs fk fl fh fr ps)) (e v)
@@ -68,7 +70,8 @@ names-shifted {old} {new} {n} a p g r h = go (order (r .named) (suc n))
     go (below s) = ap (naming r) (sym (grown-low g (shift-empty a p) (r .named - 1) (omega arith))) ∙ ap (referenceMeaning new) (sym (raised-low (suc n) r s))
     go (above s) =
         let e : suc (r .named - 1) ≡ suc (r .named) - 1 = omega arith in
-        ap (naming r) (sym (grown-high g (shift-empty a p) (r .named - 1) (omega arith)) ∙ ap (λ (i : ℕ). getD new i []) e) ∙ ap (referenceMeaning new) (sym (raised-high (suc n) r s))
+        ap (naming r) (sym (grown-high g (shift-empty a p) (r .named - 1) (omega arith)) ∙ ap (λ (i : ℕ). getD new i []) e)
+        ∙ ap (referenceMeaning new) (sym (raised-high (suc n) r s))
 
 module _ {v : Value} {node : ℕ} {a : TreePath} {qs : Values} (way : Locates v node a qs) (p : ℕ) (within : p ≤ count qs) (k : Key) (x : Scalar) where
   abbrev opened : Value
@@ -89,13 +92,17 @@ module _ {v : Value} {node : ℕ} {a : TreePath} {qs : Values} (way : Locates v 
   unfolding meaning insert insertMeaning raises
   meaning-insert f =
       let env : List TreePath = paths own (insert a p k x v) in
-      map-map (λ j. j) (λ y. y) (λ h. h) (raised (newOrdinal a p v)) keyMeaning scalarMeaning headMeaning (referenceMeaning env) keyMeaning scalarMeaning headMeaning raises
+      map-map (λ j. j) (λ y. y) (λ h. h) (raised (newOrdinal a p v)) keyMeaning scalarMeaning headMeaning
+      (referenceMeaning env) keyMeaning scalarMeaning headMeaning raises
       (λ r. Unit {0}) (λ j. refl) (λ y. refl) (λ h. refl) (λ r t. refl) opened (refs-all (λ r. Unit {0}) (λ r. tt) opened)
-      ∙ map-path keyMeaning scalarMeaning headMeaning raises countShortest (λ h. h) (putPair p k (leaf x)) (putPair p (keyMeaning k) (leaf (scalarMeaning x))) (λ h. refl)
+      ∙ map-path keyMeaning scalarMeaning headMeaning raises countShortest (λ h. h) (putPair p k (leaf x)) (putPair p (keyMeaning k) (leaf (scalarMeaning x)))
+      (λ h. refl)
       (map-put keyMeaning scalarMeaning headMeaning raises p k (leaf x)) a v
       ∙ ap (atPath (λ h. h) (putPair p (keyMeaning k) (leaf (scalarMeaning x))) a)
-      (sym (map-map keyMeaning scalarMeaning headMeaning (referenceMeaning (paths own v)) (λ j. j) (λ y. y) (λ h. h) (shifted a p) keyMeaning scalarMeaning headMeaning raises
-      (Taken (ordinals own v)) (λ j. refl) (λ y. refl) (λ h. refl) (λ r t. names-shifted a p insert-grown r (t .0)) v (refs-taken (ordinals own v) v 0 (f .backward) (omega arith))))
+      (sym (map-map keyMeaning scalarMeaning headMeaning (referenceMeaning (paths own v)) (λ j. j) (λ y. y) (λ h. h)
+      (shifted a p) keyMeaning scalarMeaning headMeaning raises
+      (Taken (ordinals own v)) (λ j. refl) (λ y. refl) (λ h. refl) (λ r t. names-shifted a p insert-grown r (t .0)) v
+      (refs-taken (ordinals own v) v 0 (f .backward) (omega arith))))
 
   -- "The new value has number k, and old numbers from k on are one higher."
   pub new-number : getD (paths own (insert a p k x v)) (newOrdinal a p v - 1) [] ≡ a ++ (p ∷ [])

@@ -67,6 +67,7 @@ pub scalar-refused : (text : List ℕ) (n p : ℕ) → scalarOf text ≡ refused
 unfolding scalarOf
 scalar-refused text n p e = go (bind-refused (exactly (readValue (setting 1 text) 1 unseen 0 text)) plain n p e)
   where
-    go : (exactly (readValue (setting 1 text) 1 unseen 0 text) ≡ refused n p) ⊎ ((v : Value) × (exactly (readValue (setting 1 text) 1 unseen 0 text) ≡ ok v) × (plain v ≡ refused n p)) → (n ≡ 13) × (p ≡ 0)
+    go : (exactly (readValue (setting 1 text) 1 unseen 0 text) ≡ refused n p) ⊎
+        ((v : Value) × (exactly (readValue (setting 1 text) 1 unseen 0 text) ≡ ok v) × (plain v ≡ refused n p)) → (n ≡ 13) × (p ≡ 0)
     go (inl h) = exactly-refused (readValue (setting 1 text) 1 unseen 0 text) n p h
     go (inr h) = plain-refused (h .0) n p (h .2)

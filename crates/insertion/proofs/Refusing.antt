@@ -96,8 +96,10 @@ module _ (capacity : ℕ) (source : List ℕ) (node place : ℕ) (key value : Li
       reading : (n p : ℕ) → read capacity source ≡ refused n p → RefusedRow n p
       noArray : (old : Value) → IsPlan capacity source old → (node < nodes old → nodeAt (tableOf old) node .tag ≡ tag Kind.array → ⊥) → RefusedRow 11 0
       noPlace : (old : Value) (s : Site) → AtArray old s → count (s .pairs) < place → RefusedRow 12 0
-      unfit : (old : Value) (s : Site) → AtPlace old s → ((k : Key) (x : Scalar) → KeyFits k → key ≡ writeKey k [] → ScalarFits x → value ≡ writeScalar x [] → ⊥) → RefusedRow 13 0
-      sameKeyed : (old : Value) (s : Site) (k : Key) (x : Scalar) → WithPair old s k x → (j : Key) → List·Memᴰ j (keys (s .pairs)) → keyMeaning k ≡ keyMeaning j → RefusedRow 9 0
+      unfit : (old : Value) (s : Site) → AtPlace old s
+          → ((k : Key) (x : Scalar) → KeyFits k → key ≡ writeKey k [] → ScalarFits x → value ≡ writeScalar x [] → ⊥) → RefusedRow 13 0
+      sameKeyed : (old : Value) (s : Site) (k : Key) (x : Scalar) → WithPair old s k x → (j : Key) → List·Memᴰ j (keys (s .pairs)) → keyMeaning k ≡ keyMeaning j
+          → RefusedRow 9 0
       tooDeep : (old : Value) (s : Site) (k : Key) (x : Scalar) → WithNewKey old s k x → suc (length (s .path)) ≡ depthLimit → RefusedRow 8 0
       noNodes : (old : Value) (s : Site) (k : Key) (x : Scalar) → WithDepth old s k x → capacity < nodes old + 2 → RefusedRow 7 0
       noBytes : (old : Value) (s : Site) (k : Key) (x : Scalar) → WithNodes old s k x
@@ -108,7 +110,8 @@ module _ (capacity : ℕ) (source : List ℕ) (node place : ℕ) (key value : Li
     Told (ok a) = Unit {0}
     Told (refused n p) = RefusedRow n p
 
-    bind : {A B : Type 0} (a : Answer A) (f : A → Answer B) → ((n p : ℕ) → a ≡ refused n p → RefusedRow n p) → ((x : A) → a ≡ ok x → Told (f x)) → Told (a >>= f)
+    bind : {A B : Type 0} (a : Answer A) (f : A → Answer B) → ((n p : ℕ) → a ≡ refused n p → RefusedRow n p) → ((x : A) → a ≡ ok x → Told (f x))
+        → Told (a >>= f)
     bind (ok x) f h g = g x refl
     bind (refused n p) f h g = h n p refl
 
@@ -136,19 +139,23 @@ module _ (capacity : ℕ) (source : List ℕ) (node place : ℕ) (key value : Li
         let ps : Values = s .pairs in
         ask (leb place (count ps)) 12 0 _ (λ e. noPlace v s array (leb-false place (count ps) e)) (λ c.
         let spot : AtPlace v s = record { array = array; within = leb-true place (count ps) c } in
-        bind (keyOf key) _ (λ n p e. numbered n p 13 (key-refused key n p e) (unfit v s spot (λ k x f t g u. not-both (sym e ∙ ap keyOf t ∙ key-text k f)))) (λ k d.
+        bind (keyOf key) _ (λ n p e. numbered n p 13 (key-refused key n p e) (unfit v s spot (λ k x f t g u. not-both (sym e ∙ ap keyOf t ∙ key-text k f))))
+        (λ k d.
         let kt = key-of key k d in
-        bind (scalarOf value) _ (λ n p e. numbered n p 13 (scalar-refused value n p e) (unfit v s spot (λ j x f t g u. not-both (sym e ∙ ap scalarOf u ∙ scalar-text x g)))) (λ x f.
+        bind (scalarOf value) _
+        (λ n p e. numbered n p 13 (scalar-refused value n p e) (unfit v s spot (λ j x f t g u. not-both (sym e ∙ ap scalarOf u ∙ scalar-text x g)))) (λ x f.
         let xt = scalar-of value x f in
         let pair : WithPair v s k x = record { spot = spot; key-is = kt .0; key-fits = kt .1; value-is = xt .0; value-fits = xt .1 } in
-        ask (not (hasKey k (keys ps))) 9 0 _ (λ e. let q = equal-key k (keys ps) (has-key (hasKey k (keys ps)) e) in sameKeyed v s k x pair (q .0) (q .1) (q .2)) (λ g.
+        ask (not (hasKey k (keys ps))) 9 0 _
+        (λ e. let q = equal-key k (keys ps) (has-key (hasKey k (keys ps)) e) in sameKeyed v s k x pair (q .0) (q .1) (q .2)) (λ g.
         let fresh : WithNewKey v s k x = record { pair = pair; new = λ j m e. T-not (hasKey k (keys ps)) (T-of g) (has-equal k j (keys ps) m e) } in
         ask (ltb (suc (length (s .path))) depthLimit) 8 0 _ (λ e.
         tooDeep v s k x fresh (omega (arith, site-depth v node s (was .fits .valid) b, ltb-false (suc (length (s .path))) depthLimit e))) (λ h.
         let level : WithDepth v s k x = record { fresh = fresh; shallow = ltb-true (suc (length (s .path))) depthLimit h } in
         ask (leb (nodes v + 2) capacity) 7 0 _ (λ e. noNodes v s k x level (leb-false (nodes v + 2) capacity e)) (λ i.
         let bytes : List ℕ = print (insert (s .path) place k x v) in
-        ask (fitsIn room (length bytes)) 14 0 _ (λ e. noBytes v s k x (record { level = level; small = leb-true (nodes v + 2) capacity i }) (too-long (length bytes) e)) (λ j. tt)))))))))
+        ask (fitsIn room (length bytes)) 14 0 _
+        (λ e. noBytes v s k x (record { level = level; small = leb-true (nodes v + 2) capacity i }) (too-long (length bytes) e)) (λ j. tt)))))))))
 
     pub refused-row : (n p : ℕ) → insertBytes capacity room source node place key value ≡ refused n p → RefusedRow n p
     refused-row n p e = subst Told e told
@@ -168,7 +175,8 @@ module _ (capacity : ℕ) (source : List ℕ) (node place : ℕ) (key value : Li
 
     newly : {old : Value} {s : Site} {k : Key} {x : Scalar} → WithNewKey old s k x → not (hasKey k (keys (s .pairs))) ≡ true
     newly {s = s} {k = k} a =
-        T-true (not (hasKey k (keys (s .pairs)))) (not-T (hasKey k (keys (s .pairs))) (λ t. let q = equal-key k (keys (s .pairs)) t in a .new (q .0) (q .1) (q .2)))
+        T-true (not (hasKey k (keys (s .pairs))))
+        (not-T (hasKey k (keys (s .pairs))) (λ t. let q = equal-key k (keys (s .pairs)) t in a .new (q .0) (q .1) (q .2)))
 
     -- all steps passed but the last
     pub steps-pass : (old : Value) (s : Site) (k : Key) (x : Scalar) → WithNodes old s k x
@@ -202,12 +210,14 @@ module _ (capacity : ℕ) (source : List ℕ) (node place : ℕ) (key value : Li
 
     refuses-array : (old : Value) → (node < nodes old → nodeAt (tableOf old) node .tag ≡ tag Kind.array → ⊥) → arrayAt node old ≡ refused 11 0
     refuses-array old f = is-refused (arrayAt node old)
-        (λ s e. let h = in-plan old node s e in f (omega (arith, site-inside old node s e)) (ap (λ (y : Node). y .tag) (at-first (tableOf old) node _ _ _ (h .rows))))
+        (λ s e. let h = in-plan old node s e in f (omega (arith, site-inside old node s e))
+        (ap (λ (y : Node). y .tag) (at-first (tableOf old) node _ _ _ (h .rows))))
         11 (λ n p e. let r = no-array old node n p e in (r .0, r .1))
 
     refuses-bytes : (n : ℕ) → (room < n) ⊎ (sourceLimit < n) → fitsIn room n ≡ false
     refuses-bytes n (inl h) = rw (lt-leb n room h, _&&_)
-    refuses-bytes n (inr h) = T-false (fitsIn room n) (not-T (fitsIn room n) (λ t. let m = leb→le n sourceLimit (and-right (leb n room) (leb n sourceLimit) t) in omega arith))
+    refuses-bytes n (inr h) =
+        T-false (fitsIn room n) (not-T (fitsIn room n) (λ t. let m = leb→le n sourceLimit (and-right (leb n room) (leb n sourceLimit) t) in omega arith))
 
     -- the texts' answers
     data Texts : Type 0 where
@@ -223,7 +233,8 @@ module _ (capacity : ℕ) (source : List ℕ) (node place : ℕ) (key value : Li
     texts-told (ok k) e = value-told k e (scalarOf value) refl
     texts-told (refused n p) e = let s = key-refused key n p e in badKey (e ∙ ap₂ refused (s .0) (s .1))
 
-    refuses-texts : {old : Value} {s : Site} → AtPlace old s → ((k : Key) (x : Scalar) → KeyFits k → key ≡ writeKey k [] → ScalarFits x → value ≡ writeScalar x [] → ⊥) → Texts
+    refuses-texts : {old : Value} {s : Site} → AtPlace old s
+        → ((k : Key) (x : Scalar) → KeyFits k → key ≡ writeKey k [] → ScalarFits x → value ≡ writeScalar x [] → ⊥) → Texts
         → insertBytes capacity room source node place key value ≡ refused 13 0
     unfolding insertBytes
     refuses-texts a f (badKey e) = rw (reads (a .array), a .array .at, placed a, e)
@@ -246,5 +257,14 @@ module _ (capacity : ℕ) (source : List ℕ) (node place : ℕ) (key value : Li
     row-refused n p (noNodes old s k x a h) =
         let pair = a .fresh .pair in
         let spot = pair .spot in
-        rw (reads (spot .array), spot .array .at, placed spot, keyed pair, valued pair, newly (a .fresh), lt-ltb (suc (length (s .path))) depthLimit (a .shallow), lt-leb (nodes old + 2) capacity h)
+        rw (
+          reads (spot .array),
+          spot .array .at,
+          placed spot,
+          keyed pair,
+          valued pair,
+          newly (a .fresh),
+          lt-ltb (suc (length (s .path))) depthLimit (a .shallow),
+          lt-leb (nodes old + 2) capacity h,
+        )
     row-refused n p (noBytes old s k x a h) = steps-pass old s k x a ∙ rw (refuses-bytes (length (print (insert (s .path) place k x old))) h)

@@ -5,7 +5,8 @@ use native.Mathlib.Omega.{arith}
 use lib.ListN.{length, length-append}
 use Rattle.format.specs.Bytes.{byte}
 use Rattle.format.specs.Tree.{leaf, ref, branch, none, pair, count, nodes, nodesIn, ordinals, ordinalsIn}
-use Rattle.format.specs.Syntax.{intKey, stringKey, null, bool, int, float, string, array, object, Key, Scalar, Container, Value, Values, own, writeNumber, writeKey, writeScalar, writeContainer, write, writePairs}
+use Rattle.format.specs.Syntax.{intKey, stringKey, null, bool, int, float, string, array, object, Key, Scalar, Container, Value, Values, own, writeNumber}
+use Rattle.format.specs.Syntax.{writeKey, writeScalar, writeContainer, write, writePairs}
 use Rattle.format.specs.Limits.{numberLimit, Seen, seeBranch, see}
 use Rattle.format.specs.Fits.{Limited, LimitedIn, Backward, BackwardIn}
 use Rattle.format.proofs.Fronts.{number-length, key-front, scalar-front, container-front}
@@ -44,7 +45,12 @@ mutual
   write-longer (ref n) r = omega (arith, number-length (n .spelling) (n .named) (byte ";" ∷ r))
   write-longer (branch h ps) r =
       let pairs : List ℕ = byte ":" ∷ byte "{" ∷ writePairs ps (byte "}" ∷ r) in
-      omega (arith, container-longer (h .container) (writeNumber (h .spelling) (count ps) pairs), number-length (h .spelling) (count ps) pairs, pairs-longer ps (byte "}" ∷ r))
+      omega (
+        arith,
+        container-longer (h .container) (writeNumber (h .spelling) (count ps) pairs),
+        number-length (h .spelling) (count ps) pairs,
+        pairs-longer ps (byte "}" ∷ r),
+      )
 
   pairs-longer : (ps : Values) (r : List ℕ) → length r + nodesIn ps ≤ length (writePairs ps r)
   pairs-longer none r = omega arith

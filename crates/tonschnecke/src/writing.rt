@@ -36,7 +36,8 @@ fn as_struct(writing: Writing) -> TonWriting
 // Writes the canonical text of a plan, and leaves the table that reading it leaves. A refusal writes nothing, and makes every word of the table zero.
 #[no_mangle]
 pub extern "C" fn ton_canonicalize(source: &[u8], table: &mut [u64], out: &mut [u8]) -> TonWriting
-    ensures { λ r. ⌜ Writes (canonicalBytes (capacityOf (now (table .entry))) (length (now (out .entry))) (now (source .entry))) (now (source .entry)) (now (table .entry)) (now (table .exit)) (now (out .entry)) (now (out .exit)) r ⌝ }
+    ensures { λ r. ⌜ Writes (canonicalBytes (capacityOf (now (table .entry))) (length (now (out .entry))) (now (source .entry)))
+        (now (source .entry)) (now (table .entry)) (now (table .exit)) (now (out .entry)) (now (out .exit)) r ⌝ }
 {
     as_struct(editor::canonicalize(source, table, out))
 }
@@ -53,7 +54,9 @@ pub extern "C" fn ton_insert(
     table: &mut [u64],
     out: &mut [u8],
 ) -> TonWriting
-    ensures { λ r. ⌜ Writes (insertBytes (capacityOf (now (table .entry))) (length (now (out .entry))) (now (source .entry)) «array_node» «pair_index» (now (key .entry)) (now (value .entry))) (now (source .entry)) (now (table .entry)) (now (table .exit)) (now (out .entry)) (now (out .exit)) r ⌝ }
+    ensures { λ r. ⌜ Writes (insertBytes (capacityOf (now (table .entry))) (length (now (out .entry))) (now (source .entry))
+        «array_node» «pair_index» (now (key .entry)) (now (value .entry)))
+        (now (source .entry)) (now (table .entry)) (now (table .exit)) (now (out .entry)) (now (out .exit)) r ⌝ }
 {
     as_struct(editor::insert(source, array_node, pair_index, key, value, table, out))
 }

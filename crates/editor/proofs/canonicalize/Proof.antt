@@ -23,8 +23,9 @@ slice-aggregate-none c = search needs
 
 write-plan-requires : tie.Need-write-plan-requires
 write-plan-requires c κs =
-    let t = promised.accepted (subst (Reads _ _ _) (c .before .before .before .enum-told .given .1) (c .before .before .before .before .before .before .before .read .ensures)) in
-    ended.canonical-sound _ _ (t .value) (t .read)
+    let told = c .before .before .before in
+    let plan = promised.accepted (subst (Reads _ _ _) (told .enum-told .given .1) (told .before .before .before .before .read .ensures)) in
+    ended.canonical-sound _ _ (plan .value) (plan .read)
 
 same-length : tie.Need-same-length
 same-length c = search needs
@@ -32,8 +33,8 @@ same-length c = search needs
 returns : tie.Need-returns
 returns c =
     let read = c .before .before .before .before .before in
-    let e = promised.refusal (subst (Reads _ _ _) (c .before .code .given .1) (read .read .ensures)) in
-    ended.writes-refused _ _ _ (read-refused _ _ _ _ _ e) (read .read .ensures .table ∙ after-refused _ _ _ _ e)
+    let refused = promised.refusal (subst (Reads _ _ _) (c .before .code .given .1) (read .read .ensures)) in
+    ended.writes-refused _ _ _ (read-refused _ _ _ _ _ refused) (read .read .ensures .table ∙ after-refused _ _ _ _ refused)
 
 same-length-2 : tie.Need-same-length-2
 same-length-2 c = search needs
@@ -43,9 +44,10 @@ same-length-3 c = search needs
 
 returns-2 : tie.Need-returns-2
 returns-2 c =
-    let read = c .before .before .before .before .before .before .before .before .before .before .before .before in
-    let t = promised.accepted (subst (Reads _ _ _) (c .before .before .before .before .before .before .before .before .enum-told .given .1) (read .read .ensures)) in
-    c .before .before .before .before .write-plan .ensures _ _ (read .read .ensures .table) (ended.canonical-written _ _ (t .value) (t .read) _)
+    let told = c .before .before .before .before .before .before .before .before in
+    let read = told .before .before .before .before in
+    let plan = promised.accepted (subst (Reads _ _ _) (told .enum-told .given .1) (read .read .ensures)) in
+    c .before .before .before .before .write-plan .ensures _ _ (read .read .ensures .table) (ended.canonical-written _ _ (plan .value) (plan .read) _)
 
 pub canonicalize-spec : {M : Type 1} → statement M
 canonicalize-spec =

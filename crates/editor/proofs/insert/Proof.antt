@@ -17,18 +17,16 @@ enum-known-spot c = search needs
 
 write-plan-requires : tie.Need-write-plan-requires
 write-plan-requires c κs =
-    let start = c .before .before .before .before .before .before .before .before .before .before .before .before .before .before in
-    let l = subst (Locates (start .args .source .now) (start .args .array-node) (start .args .pair-index) (start .args .key .now) (start .args .value .now) (start .args .table .now) _) (c .before .before .before .spot .given .1) (c .before .before .before .before .before .before .before .locate .ensures) in
-    ended.insert-sound l
+    let known = c .before .before .before in
+    ended.insert-sound (subst (Locates _ _ _ _ _ _ _) (known .spot .given .1) (known .before .before .before .before .locate .ensures))
 
 same-length : tie.Need-same-length
 same-length c = search needs
 
 returns : tie.Need-returns
 returns c =
-    let start = c .before .before .before .before .before .before .before .before .before .before .before .before in
-    let l = subst (Locates (start .args .source .now) (start .args .array-node) (start .args .pair-index) (start .args .key .now) (start .args .value .now) (start .args .table .now) _) (c .before .code .given .1) (c .before .before .before .before .before .locate .ensures) in
-    ended.writes-refused _ _ _ (l .1 _) (l .0)
+    let refused = subst (Locates _ _ _ _ _ _ _) (c .before .code .given .1) (c .before .before .before .before .before .locate .ensures) in
+    ended.writes-refused _ _ _ (refused .1 _) (refused .0)
 
 same-length-2 : tie.Need-same-length-2
 same-length-2 c = search needs
@@ -38,9 +36,9 @@ same-length-3 c = search needs
 
 returns-2 : tie.Need-returns-2
 returns-2 c =
-    let start = c .before .before .before .before .before .before .before .before .before .before .before .before .before .before .before .before .before .before .before in
-    let l = subst (Locates (start .args .source .now) (start .args .array-node) (start .args .pair-index) (start .args .key .now) (start .args .value .now) (start .args .table .now) _) (c .before .before .before .before .before .before .before .before .spot .given .1) (c .before .before .before .before .before .before .before .before .before .before .before .before .locate .ensures) in
-    c .before .before .before .before .write-plan .ensures _ _ (l .table) (l .bytes _)
+    let known = c .before .before .before .before .before .before .before .before in
+    let located = subst (Locates _ _ _ _ _ _ _) (known .spot .given .1) (known .before .before .before .before .locate .ensures) in
+    c .before .before .before .before .write-plan .ensures _ _ (located .table) (located .bytes _)
 
 pub insert-spec : {M : Type 1} → statement M
 insert-spec =

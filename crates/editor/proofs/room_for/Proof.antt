@@ -14,10 +14,7 @@ returns : tie.Need-returns
 returns c =
     let asked = c .before in
     let start = asked .before .before .before .before .before in
-    record {
-      same = refl;
-      room = ended.spared-room (start .args .source .now) (start .args .edit) (start .args .key .now) (start .args .value .now) (asked .is-spared .ensures (c .if1 .taken)) (start .pre);
-    }
+    record { same = refl; room = ended.spared-room _ _ _ _ (asked .is-spared .ensures (c .if1 .taken)) (start .pre) }
 
 slice-relend-prefix-write : tie.Need-slice-relend-prefix-write
 slice-relend-prefix-write c = search needs
@@ -42,8 +39,7 @@ same-length c = search needs
 returns-2 : tie.Need-returns-2
 returns-2 c =
     let wrote = c .before .before .before .before in
-    let start = wrote .before .before .before .before .before .before .before .before in
-    ended.unfit-roomed (start .args .source .now) (start .args .edit) (start .args .key .now) (start .args .value .now) (edits.unfit-of (wrote .write .ensures) (c .enum-told .given .1))
+    ended.unfit-roomed _ _ _ _ (edits.unfit-of (wrote .write .ensures) (c .enum-told .given .1))
 
 has-room-requires : tie.Need-has-room-requires
 has-room-requires c κs = search needs
@@ -54,9 +50,8 @@ same-length-2 c = search needs
 returns-3 : tie.Need-returns-3
 returns-3 c =
     let wrote = c .before .before .before .before .before .before in
-    let start = wrote .before .before .before .before .before .before .before .before in
     let put = edits.written-of (wrote .write .ensures) (c .before .before .measured .given .1) in
-    ended.measured-roomed (start .args .source .now) (start .args .edit) (start .args .key .now) (start .args .value .now) (start .args .out .now) (put .text) (c .has-room .ensures)
+    ended.measured-roomed _ _ _ _ _ (put .text) (c .has-room .ensures)
 
 pub room-for-spec : {M : Type 1} → statement M
 room-for-spec =

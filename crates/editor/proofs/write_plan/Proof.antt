@@ -26,7 +26,8 @@ returns c = λ before text t f.
     let start = asked .before .before .before .before .before .before .before in
     let room = asked .room-for .ensures in
     let none = not-true _ (c .before .before .before .before .if1 .taken) in
-    ended.writes-on (room .same) (ended.writes-refusal _ _ _ t (ended.full-14 (start .pre) _ f (ended.room-missing room none)) (c .before .before .refuse .ensures))
+    ended.writes-on (room .same)
+    (ended.writes-refusal _ _ _ t (ended.full-14 (start .pre) _ f (ended.room-missing room none)) (c .before .before .refuse .ensures))
 
 write-requires : tie.Need-write-requires
 write-requires c κs = search needs
@@ -52,7 +53,8 @@ returns-2 c = λ before text t f.
     let asked = wrote .before .before .before .before .before in
     let start = asked .before .before .before .before .before .before .before in
     let kept = edits.unfit-of (wrote .write .ensures) (c .before .before .before .before .enum-told .given .1) in
-    ended.writes-on (kept .same ∙ asked .room-for .ensures .same) (ended.writes-refusal _ _ _ t (ended.unfit-14 (start .pre) _ f (kept .unfit)) (c .before .before .refuse2 .ensures))
+    ended.writes-on (kept .same ∙ asked .room-for .ensures .same)
+    (ended.writes-refusal _ _ _ t (ended.unfit-14 (start .pre) _ f (kept .unfit)) (c .before .before .refuse2 .ensures))
 
 slice-reshare-prefix-settle : tie.Need-slice-reshare-prefix-settle
 slice-reshare-prefix-settle c =
@@ -80,7 +82,8 @@ returns-3 c = λ before text t f.
     let asked = wrote .before .before .before .before .before in
     let room = asked .room-for .ensures in
     let put = edits.written-of (wrote .write .ensures) (c .before .before .before .before .before .before .written .given .1) in
-    ended.writes-text _ _ _ _ f t (ended.room-there room (not-false _ (wrote .before .before .if1 .left)) (put .fit)) (ended.puts-on (room .same) (put .text)) (c .before .before .settle .ensures)
+    ended.writes-text _ _ _ _ f t (ended.room-there room (not-false _ (wrote .before .before .if1 .left)) (put .fit)) (ended.puts-on (room .same) (put .text))
+    (c .before .before .settle .ensures)
 
 pub write-plan-spec : {M : Type 1} → statement M
 write-plan-spec =

@@ -1,5 +1,6 @@
 -- `nodes::print_node` meets its contract. Assumes nothing.
 use Prim.Native.Nat.{_-_}
+use Rattle.format.specs.Table.{width}
 use borrow.Author.Needs.{needs}
 use Rattle.nodes.proofs.print_node.Statement.{statement}
 use Rattle.nodes.proofs.print_node.Tie as tie
@@ -8,7 +9,7 @@ abbrev Inv-loop : tie.InvT-loop
 Inv-loop table node first i₀ t5 t6 i = Unit
 
 abbrev μ-loop : tie.MeasureT-loop
-μ-loop table node first i₀ t5 t6 i = 6 - i
+μ-loop table node first i₀ t5 t6 i = width - i
 
 mul-first : tie.Need-mul-first Inv-loop μ-loop
 mul-first c = search needs
