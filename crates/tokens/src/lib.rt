@@ -1,4 +1,5 @@
-// Tokens: a key's or a value's own text, from its tag on; of a container its head; and the closing brace. What a plan that was read is made of, one behind another.
+// Tokens: a key's or a value's own text, from its tag on; of a container its head; and the closing brace. What a plan that was read
+// is made of, one behind another.
 use format::kind::Kind;
 use scanner::Scan;
 use scanner::Text;
