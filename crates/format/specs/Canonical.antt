@@ -1,7 +1,8 @@
 -- "Canonical text": every integer and number in shortest decimal form.
 use Prim.Native.Nat.{ℕ, zero, suc}
 use Rattle.format.specs.Tree.{mapTree}
-use Rattle.format.specs.Syntax.{mapKey, mapScalar, mapContainer, Spelling, Sign, unsigned, plus, minus, Literal, Quoted, Key, Scalar, Head, Reference, Value}
+use Rattle.format.specs.Syntax.{Spelling, Sign, unsigned, plus, minus, Literal, Quoted, Key, Scalar, Head, Reference, Value}
+use Rattle.format.specs.Syntax.{mapKey, mapScalar, mapContainer}
 
 -- "no leading zero"
 abbrev pub shortest : Spelling

@@ -61,7 +61,8 @@ shown (insertion node place key value a) r i = sameAnswer a (i node place key va
 
 -- every case of a table, with all that it takes to compute it open
 unfoldable pub hold : List Case → Bool
-unfolding shown tableOf canonical insert keyOf scalarOf insertBytes read readBody readBranch readKey keyText digits number intText quotedText boolText floatText referenceText isFloat decimal decimalIn write
+unfolding shown tableOf canonical insert keyOf scalarOf insertBytes read readBody readBranch readKey keyText digits number intText quotedText boolText
+    floatText referenceText isFloat decimal decimalIn write
 hold [] = true
 hold (c ∷ cs) = shown (c .outcome) (read (c .capacity) (c .source)) (insertBytes (c .capacity) sourceLimit (c .source)) && hold cs
 
@@ -147,13 +148,15 @@ edges =
     ∷ within 3 (bytes "a:1:{i:0;N;}" ⇒ accepted 3 2)
     ∷ within 3 (bytes "a:2:{i:0;N;i:1;R:2;}" ⇒ refusal 7 11)
     ∷ within 4 (bytes "a:2:{i:0;N;i:1;R:2;}" ⇒ refusal 7 15)
-    ∷ within 5 (bytes "a:2:{i:0;N;i:1;R:2;}" ⇒ table (97 ∷ 1 ∷ 0 ∷ 0 ∷ 2 ∷ 5 ∷ 105 ∷ 0 ∷ 0 ∷ 0 ∷ 0 ∷ 2 ∷ 78 ∷ 2 ∷ 0 ∷ 0 ∷ 0 ∷ 3 ∷ 105 ∷ 0 ∷ 1 ∷ 0 ∷ 0 ∷ 4 ∷ 82 ∷ 0 ∷ 2 ∷ 0 ∷ 2 ∷ 5 ∷ []))
+    ∷ within 5 (bytes "a:2:{i:0;N;i:1;R:2;}"
+    ⇒ table (97 ∷ 1 ∷ 0 ∷ 0 ∷ 2 ∷ 5 ∷ 105 ∷ 0 ∷ 0 ∷ 0 ∷ 0 ∷ 2 ∷ 78 ∷ 2 ∷ 0 ∷ 0 ∷ 0 ∷ 3 ∷ 105 ∷ 0 ∷ 1 ∷ 0 ∷ 0 ∷ 4 ∷ 82 ∷ 0 ∷ 2 ∷ 0 ∷ 2 ∷ 5 ∷ []))
     ∷ []
 
 -- inserting: what is kept and what is rewritten, and the order of refusals
 abbrev pub insertions : List Case
 insertions =
-    (bytes "a:02:{i:0;a:01:{i:0;r:01;}i:1;R:002;}" ⇒ insertion 2 0 (bytes "s:1:\"x\";") (bytes "N;") (ok (bytes "a:02:{i:0;a:2:{s:1:\"x\";N;i:0;r:01;}i:1;R:002;}")))
+    (bytes "a:02:{i:0;a:01:{i:0;r:01;}i:1;R:002;}"
+    ⇒ insertion 2 0 (bytes "s:1:\"x\";") (bytes "N;") (ok (bytes "a:02:{i:0;a:2:{s:1:\"x\";N;i:0;r:01;}i:1;R:002;}")))
     ∷ (bytes "a:02:{i:0;a:01:{i:0;r:01;}i:1;R:03;}" ⇒ insertion 2 0 (bytes "i:+05;") (bytes "b:1;") (ok (bytes "a:02:{i:0;a:2:{i:+05;b:1;i:0;r:01;}i:1;R:4;}")))
     ∷ (bytes "a:02:{i:0;a:01:{i:0;r:01;}i:1;R:03;}" ⇒ insertion 2 1 (bytes "i:5;") (bytes "b:1;") (ok (bytes "a:02:{i:0;a:2:{i:0;r:01;i:5;b:1;}i:1;R:03;}")))
     ∷ (bytes "N;" ⇒ insertion 0 9 (bytes "") (bytes "") (refused 11 0))

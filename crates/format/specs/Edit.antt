@@ -76,6 +76,7 @@ renumbered k v = mapTree (λ j. j) (λ x. x) (λ h. h) (raised k) v
 abbrev pub countShortest : Head → Head
 countShortest h = record { container = h .container; spelling = shortest }
 
--- "the bytes written are the old ones with three changes: the array's count, the number of each reference with t ≥ k, and key text then value text put in": their syntax
+-- "the bytes written are the old ones with three changes: the array's count, the number of each reference with t ≥ k, and key text then
+-- value text put in": their syntax
 unfoldable pub insert : TreePath → (place : ℕ) → Key → Scalar → Value → Value
 insert a p k x v = renumbered (newOrdinal a p v) (atPath countShortest (putPair p k (leaf x)) a v)

@@ -6,7 +6,8 @@ use Prim.Native.Nat.{ℕ, _-_, _≤_}
 use lib.Dec.{T}
 use lib.ListN.{length}
 use Rattle.format.specs.Tree.{leaf, ref, branch, none, pair, count, nodes}
-use Rattle.format.specs.Syntax.{intKey, stringKey, null, bool, int, float, string, array, object, Literal, Quoted, Key, Scalar, Container, Value, Values, print}
+use Rattle.format.specs.Syntax.{intKey, stringKey, null, bool, int, float, string, array, object}
+use Rattle.format.specs.Syntax.{Literal, Quoted, Key, Scalar, Container, Value, Values, print}
 use Rattle.format.specs.Limits.{numberLimit, sourceLimit, depthLimit, integerLimit, isFloat, Seen, unseen, seeBranch, see}
 use Rattle.format.specs.Keys.{hasKey}
 
@@ -59,7 +60,8 @@ abbrev mutual
   LimitedIn none = Unit {0}
   LimitedIn (pair k v ps) = Limited v × LimitedIn ps
 
--- "A reference may name number t only if t was taken before the reference's own letter: at least 1, at most the count taken so far, an r's own number not included. It may name a container that is still open."
+-- "A reference may name number t only if t was taken before the reference's own letter: at least 1, at most the count taken so far,
+-- an r's own number not included. It may name a container that is still open."
 abbrev mutual
   pub Backward : Seen → Value → Type 0
   Backward seen (leaf x) = Unit {0}

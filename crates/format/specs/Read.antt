@@ -8,7 +8,8 @@ use Rattle.decimal.specs.Digits.{digitsOf, afterDigits, value, decimal}
 use Rattle.format.specs.Bytes.{byte, bytes, isEmpty, sameBytes}
 use Rattle.format.specs.Kind.{Kind, kinds, tag, keyKinds}
 use Rattle.format.specs.Tree.{leaf, ref, branch, none, pair, nodes}
-use Rattle.format.specs.Syntax.{intKey, stringKey, null, bool, int, float, string, array, object, Spelling, Literal, Quoted, Key, Container, RefKind, objectRef, variableRef, Reference, Value, Values}
+use Rattle.format.specs.Syntax.{intKey, stringKey, null, bool, int, float, string, array, object, objectRef, variableRef}
+use Rattle.format.specs.Syntax.{Spelling, Literal, Quoted, Key, Container, RefKind, Reference, Value, Values}
 use Rattle.format.specs.Limits.{numberLimit, sourceLimit, depthLimit, integerLimit, signOf, isFloat, Seen, unseen, seeBranch, see}
 use Rattle.format.specs.Keys.{hasKey}
 use Rattle.format.specs.Answer.{Answer, ok, refused, _>>=_, require}

@@ -9,7 +9,8 @@ use Rattle.decimal.specs.Complement.{isNegative, magnitude}
 use lib.ListN.{length, getD, take, drop}
 use Rattle.format.specs.Kind.{Kind, tag}
 use Rattle.format.specs.Tree.{Pairs, none, pair, leaf, ref, branch, TreePath, count, nodesIn, one}
-use Rattle.format.specs.Syntax.{intKey, stringKey, null, bool, int, float, string, array, object, RefKind, objectRef, variableRef, refKind, Value, Values, writeNumber, writeKey, writeScalar, writeContainer, write}
+use Rattle.format.specs.Syntax.{intKey, stringKey, null, bool, int, float, string, array, object, RefKind, objectRef, variableRef, refKind}
+use Rattle.format.specs.Syntax.{Value, Values, writeNumber, writeKey, writeScalar, writeContainer, write}
 use Rattle.format.specs.Keys.{KeyMeaning}
 use Rattle.format.specs.Meaning.{Meaning, ScalarMeaning, HeadMeaning, ReferenceMeaning}
 use Rattle.format.specs.Table.{Node, word, pairsOffset, valueOffset, nextOffset}
@@ -88,7 +89,8 @@ module _ (source : List ℕ) where
     pub Placed : (o : ℕ) → Value → Type 0
     Placed o (leaf x) = Begins source o (writeScalar x [])
     Placed o (ref r) = Begins source o (write (ref r) [])
-    Placed o (branch h ps) = Begins source o (writeContainer (h .container) (writeNumber (h .spelling) (count ps) [])) × PlacedIn (pairsOffset o h (count ps)) ps
+    Placed o (branch h ps) =
+        Begins source o (writeContainer (h .container) (writeNumber (h .spelling) (count ps) [])) × PlacedIn (pairsOffset o h (count ps)) ps
 
     pub PlacedIn : (o : ℕ) → Values → Type 0
     PlacedIn o none = Unit {0}

@@ -9,7 +9,8 @@ use Rattle.format.specs.Kind.{Kind, tag, hasText}
 use Rattle.format.specs.Tree.{leaf, ref, branch, none, pair, count, nodes, nodesIn, ordinals, one, only}
 use lib.IntN.{ℤ, pos, negsuc}
 use Rattle.format.specs.Keys.{integer}
-use Rattle.format.specs.Syntax.{intKey, stringKey, null, bool, int, float, string, array, object, Quoted, Key, Scalar, Container, Head, refKind, Reference, Value, Values, own, write, writeKey, writeNumber, writeContainer}
+use Rattle.format.specs.Syntax.{intKey, stringKey, null, bool, int, float, string, array, object, Quoted, Key, Scalar, Container, Head}
+use Rattle.format.specs.Syntax.{refKind, Reference, Value, Values, own, write, writeKey, writeNumber, writeContainer}
 
 pub record Node : Type 0 where
   -- word 0: "the letter's byte"
@@ -122,7 +123,14 @@ tableOf v = table (targetOf v) 0 0 1 v
 
 -- the same node but for its text's offset, word 2 of d, s and O
 abbrev pub withoutOffset : Node → Node
-withoutOffset n = record { tag = n .tag; ordinal = n .ordinal; content = elim (hasText (n .tag)) [ true ↦ 0 | false ↦ n .content ]; size = n .size; link = n .link; end = n .end }
+withoutOffset n = record {
+  tag = n .tag;
+  ordinal = n .ordinal;
+  content = elim (hasText (n .tag)) [ true ↦ 0 | false ↦ n .content ];
+  size = n .size;
+  link = n .link;
+  end = n .end;
+}
 
 -- two tables of so many nodes, the same but for text offsets, with the same words behind them
 pub record SameButOffsets (count : ℕ) (one other : List ℕ) : Type 0 where

@@ -29,7 +29,10 @@ keyWordsIn t i = elim (ltb i (capacityOf t)) [ true ↦ keyWordsAt t i | false �
 -- "Two keys of one container are equal when both are i with equal value or both are s with equal bytes.", by their words
 unfoldable pub sameWords : (s : List ℕ) → KeyWords → (t : List ℕ) → KeyWords → Bool
 sameWords s a t b = eqb (a .tag) (b .tag)
-    && (elim (eqb (a .tag) (tag Kind.int)) [ true ↦ eqb (a .content) (b .content) | false ↦ sameBytes (textOf s (a .content) (a .size)) (textOf t (b .content) (b .size)) ])
+    && (elim (eqb (a .tag) (tag Kind.int)) [
+      | true ↦ eqb (a .content) (b .content)
+      | false ↦ sameBytes (textOf s (a .content) (a .size)) (textOf t (b .content) (b .size))
+    ])
 
 -- ---- which key the words say
 

@@ -50,8 +50,12 @@ module _ (s : List ℕ) (at b : ℕ) (may : mayBeKey b ≡ true) (here : at < le
   kind-is = go which
     where
       go : KeyKind (kindFor b) → keyKind (f .what) ≡ kindFor b
-      go (is-int e) = key-of-int 0 (drop (at + 1) s) (f .what, drop (x .next) s) (subst (λ (k : Kind). keyText k 0 (drop (at + 1) s) ≡ ok (f .what, drop (x .next) s)) e (f .is 0)) ∙ sym e
-      go (is-string e) = key-of-string 0 (drop (at + 1) s) (f .what, drop (x .next) s) (subst (λ (k : Kind). keyText k 0 (drop (at + 1) s) ≡ ok (f .what, drop (x .next) s)) e (f .is 0)) ∙ sym e
+      go (is-int e) =
+          key-of-int 0 (drop (at + 1) s) (f .what, drop (x .next) s) (subst (λ (k : Kind). keyText k 0 (drop (at + 1) s) ≡ ok (f .what, drop (x .next) s)) e (f .is 0))
+          ∙ sym e
+      go (is-string e) =
+          key-of-string 0 (drop (at + 1) s) (f .what, drop (x .next) s) (subst (λ (k : Kind). keyText k 0 (drop (at + 1) s) ≡ ok (f .what, drop (x .next) s)) e (f .is 0))
+          ∙ sym e
 
   tag-back : tag (kindFor b) ≡ b
   unfolding kindFor
@@ -67,7 +71,9 @@ module _ (s : List ℕ) (at b : ℕ) (may : mayBeKey b ≡ true) (here : at < le
   written = keyText-ok (kindFor b) 0 (drop (at + 1) s) (f .what, drop (x .next) s) which (f .is 0) .text
 
   at-key : drop at s ≡ writeKey (f .what) (drop (x .next) s)
-  at-key = drop-cons s at 0 here ∙ ap (λ (k : ℕ). k ∷ drop (suc at) s) (tagged ∙ sym tag-back) ∙ ap (λ (k : ℕ). tag (kindFor b) ∷ drop k s) (sym (add-one at)) ∙ written
+  at-key =
+      drop-cons s at 0 here ∙ ap (λ (k : ℕ). k ∷ drop (suc at) s) (tagged ∙ sym tag-back) ∙ ap (λ (k : ℕ). tag (kindFor b) ∷ drop k s) (sym (add-one at))
+      ∙ written
 
   says : (k : Key) → drop at s ≡ writeKey k (drop (x .next) s) → x ≡ keyTold (at + 1) k (x .next) → Says s k (x .content) (x .size)
   says (intKey y) w e = sym (ap (λ (u : Text). u .content) e)
@@ -89,8 +95,10 @@ module _ (s : List ℕ) (at b : ℕ) (may : mayBeKey b ≡ true) (here : at < le
 
 -- ---- the words of a key that is placed
 
-placed-words : (t t′ : List ℕ) (c c′ : Cursor) (b : ℕ) (x : Text) → c .node * width + width ≤ length t → Placed t t′ c b x false c′ → keyWordsAt t′ (c .node) ≡ record { tag = b; content = x .content; size = x .size }
-placed-words t t′ c c′ b x room p = of-words (wordAt t′ (c .node) 0) b (wordAt t′ (c .node) 2) (x .content) (wordAt t′ (c .node) 3) (x .size) (word-is 0 (lit< tt)) (word-is 2 (lit< tt)) (word-is 3 (lit< tt))
+placed-words : (t t′ : List ℕ) (c c′ : Cursor) (b : ℕ) (x : Text) → c .node * width + width ≤ length t → Placed t t′ c b x false c′
+    → keyWordsAt t′ (c .node) ≡ record { tag = b; content = x .content; size = x .size }
+placed-words t t′ c c′ b x room p =
+    of-words (wordAt t′ (c .node) 0) b (wordAt t′ (c .node) 2) (x .content) (wordAt t′ (c .node) 3) (x .size) (word-is 0 (lit< tt)) (word-is 2 (lit< tt)) (word-is 3 (lit< tt))
   where
     ws : List ℕ
     ws = words (nodeOf b 0 (c .node + 1) x)
@@ -98,16 +106,19 @@ placed-words t t′ c c′ b x room p = of-words (wordAt t′ (c .node) 0) b (wo
     word-is : (j : ℕ) → j < length ws → wordAt t′ (c .node) j ≡ getD ws j 0
     word-is j u = run-word t t′ ws (c .node) j (p .table) u room
 
-    of-words : (a₁ a₂ b₁ b₂ d₁ d₂ : ℕ) → a₁ ≡ a₂ → b₁ ≡ b₂ → d₁ ≡ d₂ → _≡_ {A = KeyWords} (record { tag = a₁; content = b₁; size = d₁ }) (record { tag = a₂; content = b₂; size = d₂ })
+    of-words : (a₁ a₂ b₁ b₂ d₁ d₂ : ℕ) → a₁ ≡ a₂ → b₁ ≡ b₂ → d₁ ≡ d₂
+        → _≡_ {A = KeyWords} (record { tag = a₁; content = b₁; size = d₁ }) (record { tag = a₂; content = b₂; size = d₂ })
     of-words a₁ a₂ b₁ b₂ d₁ d₂ u v w = rw (u, v, w)
 
 -- ---- what is known of the keys
 
-pub none-more : (s t t′ m m′ : List ℕ) (first node : ℕ) (seen : Seen) (r : Step) (code at : ℕ) → r ≡ Step.Refused code at → Grows m m′ → Remembers s t t′ m m′ first node seen r
+pub none-more : (s t t′ m m′ : List ℕ) (first node : ℕ) (seen : Seen) (r : Step) (code at : ℕ) → r ≡ Step.Refused code at → Grows m m′
+    → Remembers s t t′ m m′ first node seen r
 none-more s t t′ m m′ first node seen r code at e g = record { grows = g; known = λ c′ q. absurd (let z : _≡_ {A = ℕ} 0 1 = cc in omega arith) }
 
-pub one-more : (s t t′ m m′ : List ℕ) (first capacity : ℕ) (seen : Seen) (c c′ : Cursor) (b : ℕ) (x : Text) (r : Step) (found : Bool) → Fit s t capacity c → c .node < capacity
-    → Tested s t m m′ first (c .node) (record { tag = b; content = x .content; size = x .size }) seen found → Placed t t′ c b x false c′ → Remembers s t t′ m m′ first (c .node) seen r
+pub one-more : (s t t′ m m′ : List ℕ) (first capacity : ℕ) (seen : Seen) (c c′ : Cursor) (b : ℕ) (x : Text) (r : Step) (found : Bool) → Fit s t capacity c
+    → c .node < capacity → Tested s t m m′ first (c .node) (record { tag = b; content = x .content; size = x .size }) seen found → Placed t t′ c b x false c′
+    → Remembers s t t′ m m′ first (c .node) seen r
 one-more s t t′ m m′ first capacity seen c c′ b x r found fit room d p =
     record {
       grows = d .grows;
@@ -156,9 +167,10 @@ module _ (s : List ℕ) (capacity container : ℕ) (c : Cursor) (earlier : List 
         unfolding keyAt readKey
         opened = rw (readKey, tag-is among 4 l s (c .at) b h q e, key-kind-is (isArrayTag container) b e, lt-ltb (c .node) capacity room, position-is s (c .at) inside)
 
-        pub key-not : (t t′ : List ℕ) (scan : Scan) (code : ℕ) (r : Step) → Scans (keyText (kindFor b)) (keyTold (c .at + 1)) s (c .at + 1) scan → scan ≡ Scan.Not code → r ≡ refusalOf scan (c .at)
-            → MeetsKey s t t′ capacity c given r
-        key-not t t′ scan code r k g z = subst (MeetsKey s t t′ capacity c given) (sym (refused-is scan code (c .at) r z g)) (opened ∙ rw (unfit-of k g (c .at)))
+        pub key-not : (t t′ : List ℕ) (scan : Scan) (code : ℕ) (r : Step) → Scans (keyText (kindFor b)) (keyTold (c .at + 1)) s (c .at + 1) scan
+            → scan ≡ Scan.Not code → r ≡ refusalOf scan (c .at) → MeetsKey s t t′ capacity c given r
+        key-not t t′ scan code r k g z =
+            subst (MeetsKey s t t′ capacity c given) (sym (refused-is scan code (c .at) r z g)) (opened ∙ rw (unfit-of k g (c .at)))
 
         module _ (x : Text) (f : Found (keyText (kindFor b)) (keyTold (c .at + 1)) s (c .at + 1) x) where
           pub key-twice : hasKey (f .what) earlier ≡ true → given ≡ refused 9 (c .at)
@@ -170,7 +182,8 @@ module _ (s : List ℕ) (capacity container : ℕ) (c : Cursor) (earlier : List 
           key-held : Held s (f .what) (record { tag = b; content = x .content; size = x .size })
           key-held = held-of s (c .at) b may h q x f
 
-          pub key-good : (t t′ : List ℕ) (c′ : Cursor) → Fit s t capacity c → hasKey (f .what) earlier ≡ false → Placed t t′ c b x false c′ → GoodKey s t t′ capacity c given c′
+          pub key-good : (t t′ : List ℕ) (c′ : Cursor) → Fit s t capacity c → hasKey (f .what) earlier ≡ false → Placed t t′ c b x false c′
+              → GoodKey s t t′ capacity c given c′
           key-good t t′ c′ fit g p =
               subst (GoodKey s t t′ capacity c given) (sym (p .cursor)) (record {
                 key = f .what;
@@ -181,6 +194,7 @@ module _ (s : List ℕ) (capacity container : ℕ) (c : Cursor) (earlier : List 
                 fits = omega arith;
                 ordinal = add-zero (c .ordinal);
                 levels = refl;
-                table = p .table ∙ ap (λ (n : ℕ). sets t (c .node * width) (words (nodeOf b 0 n x))) (add-one (c .node)) ∙ ap (λ (n : Node). sets t (c .node * width) (words n)) (sym (key-node s (c .at) b may h q x f (c .node)));
+                table = p .table ∙ ap (λ (n : ℕ). sets t (c .node * width) (words (nodeOf b 0 n x))) (add-one (c .node))
+                    ∙ ap (λ (n : Node). sets t (c .node * width) (words n)) (sym (key-node s (c .at) b may h q x f (c .node)));
                 held = subst (Held s (f .what)) (sym (placed-words t t′ c c′ b x (omega arith) p)) key-held;
               })

@@ -8,7 +8,8 @@ use lib.ListN.{length, drop}
 use Rattle.format.specs.Answer.{Answer, ok, refused}
 use Rattle.tokens.specs.Tokens.{Token, readToken, writeTokens, AllFit}
 
--- one behind another, as long as more bytes are left than stand behind the end; up to the first that is none. A token has a byte or more, so as many steps as bytes are enough
+-- one behind another, as long as more bytes are left than stand behind the end; up to the first that is none. A token has a byte or more,
+-- so as many steps as bytes are enough
 abbrev pub nextOf : (more : List ℕ → List Token) → Answer (Token × List ℕ) → List Token
 nextOf more (ok (t, s)) = t ∷ more s
 nextOf more (refused c at) = []

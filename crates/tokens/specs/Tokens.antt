@@ -8,7 +8,8 @@ use lib.Dec.{eqb}
 use Rattle.format.specs.Bytes.{byte}
 use Rattle.format.specs.Kind.{Kind, tag, isTagOf}
 use Rattle.format.specs.Tree.{leaf, ref, branch, none, pair, count, one}
-use Rattle.format.specs.Syntax.{intKey, stringKey, int, string, Key, Spelling, Scalar, Container, Head, RefKind, objectRef, variableRef, refKind, Reference, Value, Values, writeNumber, writeScalar, writeContainer}
+use Rattle.format.specs.Syntax.{intKey, stringKey, int, string, Key, Spelling, Scalar, Container, Head, RefKind, objectRef, variableRef, refKind}
+use Rattle.format.specs.Syntax.{Reference, Value, Values, writeNumber, writeScalar, writeContainer}
 use Rattle.format.specs.Limits.{numberLimit}
 use Rattle.format.specs.Fits.{ScalarFits, ContainerFits}
 use Rattle.format.specs.Edit.{raised}

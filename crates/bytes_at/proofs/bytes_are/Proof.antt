@@ -15,16 +15,27 @@ byte-is-requires : tie.Need-byte-is-requires
 byte-is-requires c κs = search needs
 
 returns : tie.Need-returns
-returns c = ap (λ (x : Bool). x && eqb (byteAt (c .before .before .before .args .source .now) (c .before .before .before .args .at + 1)) (c .before .before .before .args .second)) (sym (sym (c .before .byte-is .ensures) ∙ not-true _ (c .if1 .taken)))
+returns c =
+    let asked = c .before in
+    let args = asked .before .before .args in
+    let other = sym (asked .byte-is .ensures) ∙ not-true _ (c .if1 .taken) in
+    ap (λ (x : Bool). x && eqb (byteAt (args .source .now) (args .at + 1)) (args .second)) (sym other)
 
 add-byte-is : tie.Need-add-byte-is
-add-byte-is c = omega (arith, byte-there _ _ (c .before .before .before .args .first) (omega arith) (sym (c .before .byte-is .ensures) ∙ not-false _ (c .if1 .left)))
+add-byte-is c =
+    let asked = c .before in
+    omega (arith, byte-there _ _ (asked .before .before .args .first) (omega arith) (sym (asked .byte-is .ensures) ∙ not-false _ (c .if1 .left)))
 
 byte-is-requires-2 : tie.Need-byte-is-requires-2
 byte-is-requires-2 c κs = search needs
 
 returns-2 : tie.Need-returns-2
-returns-2 c = c .byte-is2 .ensures ∙ ap (λ (x : Bool). x && eqb (byteAt (c .before .before .before .before .args .source .now) (c .before .before .before .before .args .at + 1)) (c .before .before .before .before .args .second)) (sym (sym (c .before .before .byte-is .ensures) ∙ not-false _ (c .before .if1 .left)))
+returns-2 c =
+    let past = c .before in
+    let asked = past .before in
+    let args = asked .before .before .args in
+    let first = sym (asked .byte-is .ensures) ∙ not-false _ (past .if1 .left) in
+    c .byte-is2 .ensures ∙ ap (λ (x : Bool). x && eqb (byteAt (args .source .now) (args .at + 1)) (args .second)) (sym first)
 
 pub bytes-are-spec : {M : Type 1} → statement M
 bytes-are-spec =

@@ -15,7 +15,7 @@ abbrev μ-loop : tie.MeasureT-loop
 μ-loop a b i₀ i = length a - i
 
 returns : tie.Need-returns Inv-loop μ-loop
-returns c = differ-length (c .before .args .a .now) (c .before .args .b .now) (c .if1 .taken)
+returns c = let start = c .before in differ-length (start .args .a .now) (start .args .b .now) (c .if1 .taken)
 
 loop-holds : tie.Need-loop-holds Inv-loop μ-loop
 loop-holds c = (omega arith, c .if1 .left, refl)
@@ -27,7 +27,10 @@ shared-slice-read-if2-2 : tie.Need-shared-slice-read-if2-2 Inv-loop μ-loop
 shared-slice-read-if2-2 c = omega (arith, c .before .before .before .loop .inv .1)
 
 returns-2 : tie.Need-returns-2 Inv-loop μ-loop
-returns-2 c = same-not _ _ _ (c .before .before .before .before .loop .inv .1) (c .before .before .before .before .loop .inv .2) (c .before .before .before .loop-test .taken) (c .if2 .taken)
+returns-2 c =
+    let more = c .before .before .before in
+    let inv = more .before .loop .inv in
+    same-not _ _ _ (inv .1) (inv .2) (more .loop-test .taken) (c .if2 .taken)
 
 add-i : tie.Need-add-i Inv-loop μ-loop
 add-i c = omega arith
@@ -36,10 +39,13 @@ loop-less : tie.Need-loop-less Inv-loop μ-loop
 loop-less c = omega arith
 
 loop-again : tie.Need-loop-again Inv-loop μ-loop
-loop-again c = (omega arith, c .before .before .before .before .loop .inv .1, same-more _ _ _ (c .before .before .before .before .loop .inv .1) (c .before .before .before .before .loop .inv .2) (c .before .before .before .loop-test .taken) (c .if2 .left))
+loop-again c =
+    let more = c .before .before .before in
+    let inv = more .before .loop .inv in
+    (omega arith, inv .1, same-more _ _ _ (inv .1) (inv .2) (more .loop-test .taken) (c .if2 .left))
 
 returns-3 : tie.Need-returns-3 Inv-loop μ-loop
-returns-3 c = same-end _ _ _ (c .before .loop .inv .1) (c .before .loop .inv .2) (c .loop-test .left)
+returns-3 c = let inv = c .before .loop .inv in same-end _ _ _ (inv .1) (inv .2) (c .loop-test .left)
 
 pub same-bytes-spec : {M : Type 1} → statement M
 same-bytes-spec =

@@ -15,36 +15,46 @@ use Rattle.decimal.proofs.+write_decimal.Tie.{close}
 abbrev μ-write-decimal : Measures 1 write-decimal-kinds.ps ℕ
 μ-write-decimal κs a = a .1 .1 .0
 
+-- what it is given at the measure t, and what a call of it asks below t
 abbrev write-decimal-at : ℕ → In 1 write-decimal-kinds.ps
-write-decimal-at t =
-    and 1 write-decimal-kinds.ps (is 1 write-decimal-kinds.ps μ-write-decimal t) write-decimal.Pre
+write-decimal-at t = and 1 write-decimal-kinds.ps (is 1 write-decimal-kinds.ps μ-write-decimal t) write-decimal.Pre
 
 abbrev write-decimal-below : ℕ → In 1 write-decimal-kinds.ps
-write-decimal-below t =
-    and
-    1
-    write-decimal-kinds.ps
-    (falls 1 write-decimal-kinds.ps _<_ μ-write-decimal t)
-    write-decimal.Pre
+write-decimal-below t = and 1 write-decimal-kinds.ps (falls 1 write-decimal-kinds.ps _<_ μ-write-decimal t) write-decimal.Pre
+
+abbrev calls : ℕ → write-decimal-lts.Claims
+calls t = (put-reads.Asked, put-reads.Learnt, write-decimal-below t, write-decimal.Post)
+
+returns : (t : ℕ) → write-decimal-lts.Need-returns (calls t) (write-decimal-at t) write-decimal.Post
+returns t c =
+    let put = c .before .before in
+    let small = put .before .before in
+    stored-small _ _ _ _ (small .if1 .taken) (put .put .ensures)
+
+add-result : (t : ℕ) → write-decimal-lts.Need-add-result (calls t) (write-decimal-at t) write-decimal.Post
+add-result t c =
+    let called = c .before .before .before .before .before .before in
+    omega (arith, stored-short (called .write-decimal .ensures) (omega arith))
+
+returns-2 : (t : ℕ) → write-decimal-lts.Need-returns-2 (calls t) (write-decimal-at t) write-decimal.Post
+returns-2 t c =
+    let put = c .before .before in
+    let called = put .before .before .before .before in
+    let large = called .before .before in
+    stored-large _ _ _ _ _ _ (large .if1 .left) (called .write-decimal .ensures) (put .put2 .ensures)
 
 pub +write-decimal-spec : {M : Type 1} → statement M
-+write-decimal-spec = close μ-write-decimal λ t. write-decimal-lts.spec (
-  put-reads.Asked,
-  put-reads.Learnt,
-  write-decimal-below t,
-  write-decimal.Post,
-)
-    (write-decimal-at t)
-    write-decimal.Post
++write-decimal-spec =
+    close μ-write-decimal λ t. write-decimal-lts.spec (calls t) (write-decimal-at t) write-decimal.Post
     (λ c. search needs)
     (λ c. search needs)
     (λ c κs. tt)
     (λ c. search needs)
-    (λ c. stored-small _ _ _ _ (c .before .before .before .before .if1 .taken) (c .before .before .put .ensures))
+    (returns t)
     (λ c κs. (omega arith, tt))
     (λ c. search needs)
     (λ c. search needs)
     (λ c κs. tt)
-    (λ c. omega (arith, stored-short (c .before .before .before .before .before .before .write-decimal .ensures) (omega arith)))
+    (add-result t)
     (λ c. search needs)
-    (λ c. stored-large _ _ _ _ _ _ (c .before .before .before .before .before .before .before .before .if1 .left) (c .before .before .before .before .before .before .write-decimal .ensures) (c .before .before .put2 .ensures))
+    (returns-2 t)

@@ -9,7 +9,10 @@ wrapping-sub-u64-requires : tie.Need-wrapping-sub-u64-requires
 wrapping-sub-u64-requires c κs = search needs
 
 returns : tie.Need-returns
-returns c = rw (c .before .if1 .taken) (negate-of 64 (c .before .before .args .magnitude) (c .wrapping-sub-u64 .result) (omega arith) (omega arith) (c .wrapping-sub-u64 .ensures))
+returns c =
+    let negated = c .wrapping-sub-u64 in
+    let start = c .before .before in
+    rw (c .before .if1 .taken) (negate-of 64 (start .args .magnitude) (negated .result) (omega arith) (omega arith) (negated .ensures))
 
 returns-2 : tie.Need-returns-2
 returns-2 c = search needs

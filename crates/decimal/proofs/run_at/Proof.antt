@@ -29,13 +29,19 @@ loop-less : tie.Need-loop-less Inv-loop μ-loop
 loop-less c = omega arith
 
 loop-again : tie.Need-loop-again Inv-loop μ-loop
-loop-again c = scanned-more _ _ _ _ _ _ (c .before .before .before .before .before .loop .inv) (search needs) (search needs) (search needs) (c .push-digit .ensures)
+loop-again c =
+    let looped = c .before .before .before .before .before in
+    scanned-more _ _ _ _ _ _ (looped .loop .inv) (search needs) (search needs) (search needs) (c .push-digit .ensures)
 
 returns : tie.Need-returns Inv-loop μ-loop
-returns c = scanned-done _ _ _ _ _ (c .before .before .before .loop .inv) (run-stops _ _ (c .before .before .loop-test .taken) (below-digits _ (c .if1 .taken)))
+returns c =
+    let more = c .before .before in
+    scanned-done _ _ _ _ _ (more .before .loop .inv) (run-stops _ _ (more .loop-test .taken) (below-digits _ (c .if1 .taken)))
 
 returns-2 : tie.Need-returns-2 Inv-loop μ-loop
-returns-2 c = scanned-done _ _ _ _ _ (c .before .before .before .before .loop .inv) (run-stops _ _ (c .before .before .before .loop-test .taken) (above-digits _ (c .if2 .left)))
+returns-2 c =
+    let more = c .before .before .before in
+    scanned-done _ _ _ _ _ (more .before .loop .inv) (run-stops _ _ (more .loop-test .taken) (above-digits _ (c .if2 .left)))
 
 returns-3 : tie.Need-returns-3 Inv-loop μ-loop
 returns-3 c = scanned-done _ _ _ _ _ (c .before .loop .inv) (run-ends _ _ (c .loop-test .left))

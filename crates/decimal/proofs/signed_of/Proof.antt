@@ -12,7 +12,10 @@ wrapping-sub-u64-requires : tie.Need-wrapping-sub-u64-requires
 wrapping-sub-u64-requires c κs = search needs
 
 returns-2 : tie.Need-returns-2
-returns-2 c = signed-high 64 _ _ (omega arith) (negate-of 64 (c .before .before .args .word) (c .wrapping-sub-u64 .result) (omega arith) (omega arith) (c .wrapping-sub-u64 .ensures))
+returns-2 c =
+    let negated = c .wrapping-sub-u64 in
+    let start = c .before .before in
+    signed-high 64 _ _ (omega arith) (negate-of 64 (start .args .word) (negated .result) (omega arith) (omega arith) (negated .ensures))
 
 pub signed-of-spec : {M : Type 1} → statement M
 signed-of-spec = tie.close (tie.spec returns wrapping-sub-u64-requires returns-2)

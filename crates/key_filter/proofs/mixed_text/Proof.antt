@@ -10,7 +10,8 @@ use Rattle.key_filter.proofs.mixed_text.Statement.{statement}
 use Rattle.key_filter.proofs.mixed_text.Tie as tie
 
 abbrev Inv-loop : tie.InvT-loop
-Inv-loop source offset size start hash₀ at₀ left₀ hash at left = (at + left ≡ offset + size) × (mixedText hash (take left (drop at source)) ≡ mixedText start (take size (drop offset source)))
+Inv-loop source offset size start hash₀ at₀ left₀ hash at left =
+    (at + left ≡ offset + size) × (mixedText hash (take left (drop at source)) ≡ mixedText start (take size (drop offset source)))
 
 abbrev μ-loop : tie.MeasureT-loop
 μ-loop source offset size start hash₀ at₀ left₀ hash at left = left
@@ -36,10 +37,13 @@ loop-less c = omega arith
 loop-again : tie.Need-loop-again Inv-loop μ-loop
 loop-again c =
     let halves = c .before in
-    let test = halves .before in
-    let loop = test .before .loop in
-    let source = test .before .before .before .args .source .now in
-    (omega arith, hashing.words-more source _ _ (loop .at) (loop .left) _ (omega (arith, loop .inv .0)) (loop .inv .1) _ _ (test .loop-test .taken) (halves .halves-at .ensures) (c .mixed .ensures))
+    let more = halves .before in
+    let loop = more .before .loop in
+    let source = more .before .before .before .args .source .now in (
+      omega arith,
+      hashing.words-more source _ _ (loop .at) (loop .left) _ (omega (arith, loop .inv .0)) (loop .inv .1) _ _ (more .loop-test .taken)
+          (halves .halves-at .ensures) (c .mixed .ensures),
+    )
 
 returns : tie.Need-returns Inv-loop μ-loop
 returns c =
@@ -56,10 +60,11 @@ mixed-requires-2 c κs = search needs
 returns-2 : tie.Need-returns-2 Inv-loop μ-loop
 returns-2 c =
     let some = c .before .before in
-    let test = some .before in
-    let loop = test .before .loop in
-    let source = test .before .before .before .args .source .now in
-    hashing.words-last source _ _ (loop .at) (loop .left) _ (omega (arith, loop .inv .0)) (loop .inv .1) _ _ (test .loop-test .left) (omega (arith, some .if1 .left)) (c .before .rest-at .ensures) (c .mixed2 .ensures)
+    let last = some .before in
+    let loop = last .before .loop in
+    let source = last .before .before .before .args .source .now in
+    hashing.words-last source _ _ (loop .at) (loop .left) _ (omega (arith, loop .inv .0)) (loop .inv .1) _ _ (last .loop-test .left)
+    (omega (arith, some .if1 .left)) (c .before .rest-at .ensures) (c .mixed2 .ensures)
 
 pub mixed-text-spec : {M : Type 1} → statement M
 mixed-text-spec =

@@ -40,10 +40,10 @@ half-requires c κs = search needs
 
 returns-2 : tie.Need-returns-2
 returns-2 c =
-    let test = c .before .before .before .before in
-    let start = test .before .before in
+    let short = c .before .before .before .before in
+    let start = short .before .before in
     let at = start .args in
-    c .half .ensures .0 ∙ sym (hashing.rest-short (at .source .now) (at .at) (at .count) (start .pre .0) (test .if1 .left) (start .pre .1))
+    c .half .ensures .0 ∙ sym (hashing.rest-short (at .source .now) (at .at) (at .count) (start .pre .0) (short .if1 .left) (start .pre .1))
 
 pub rest-at-spec : {M : Type 1} → statement M
 rest-at-spec =

@@ -18,8 +18,8 @@ spread-requires c κs = search needs
 
 returns : tie.Need-returns
 returns c =
-    let test = c .before .before in
-    c .spread .ensures ∙ ap spread (c .before .start .ensures) ∙ hashing.text-outside _ _ _ _ (text-past _ _ _ (test .if1 .taken))
+    let past = c .before .before in
+    c .spread .ensures ∙ ap spread (c .before .start .ensures) ∙ hashing.text-outside _ _ _ _ (text-past _ _ _ (past .if1 .taken))
 
 sub-if2 : tie.Need-sub-if2
 sub-if2 c = search needs
@@ -32,9 +32,10 @@ spread-requires-2 c κs = search needs
 
 returns-2 : tie.Need-returns-2
 returns-2 c =
-    let test = c .before .before in
-    let past = test .before in
-    c .spread2 .ensures ∙ ap spread (c .before .start2 .ensures) ∙ hashing.text-outside _ _ _ _ (text-long _ _ _ (omega (arith, past .if1 .left)) (test .if2 .taken))
+    let long = c .before .before in
+    let inside = long .before in
+    c .spread2 .ensures ∙ ap spread (c .before .start2 .ensures)
+    ∙ hashing.text-outside _ _ _ _ (text-long _ _ _ (omega (arith, inside .if1 .left)) (long .if2 .taken))
 
 start-requires-3 : tie.Need-start-requires-3
 start-requires-3 c κs = search needs
@@ -49,12 +50,12 @@ returns-3 : tie.Need-returns-3
 returns-3 c =
     let mix = c .before in
     let begin = mix .before in
-    let test = begin .before in
-    let past = test .before in
-    let text = past .before .before .args in
+    let fits = begin .before in
+    let inside = fits .before in
+    let text = inside .before .before .args in
     c .spread3 .ensures
     ∙ ap spread (mix .mixed-text .ensures ∙ ap (λ (h : ℕ). mixedText h (take (text .size) (drop (text .offset) (text .source .now)))) (begin .start3 .ensures))
-    ∙ hashing.text-inside _ _ _ _ (omega (arith, past .if1 .left, test .if2 .left))
+    ∙ hashing.text-inside _ _ _ _ (omega (arith, inside .if1 .left, fits .if2 .left))
 
 pub text-hash-spec : {M : Type 1} → statement M
 text-hash-spec =

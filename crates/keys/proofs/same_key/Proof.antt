@@ -10,7 +10,10 @@ returns : tie.Need-returns
 returns c = sym (same.tags-differ _ _ _ _ (c .if1 .taken))
 
 returns-2 : tie.Need-returns-2
-returns-2 c = sym (same.contents _ _ _ _ (c .before .before .before .before .if1 .left) (c .before .before .if2 .taken))
+returns-2 c =
+    let int = c .before .before in
+    let same-tag = int .before .before in
+    sym (same.contents _ _ _ _ (same-tag .if1 .left) (int .if2 .taken))
 
 text-of-requires : tie.Need-text-of-requires
 text-of-requires c κs = search needs
@@ -22,7 +25,12 @@ same-bytes-requires : tie.Need-same-bytes-requires
 same-bytes-requires c κs = search needs
 
 returns-3 : tie.Need-returns-3
-returns-3 c = c .same-bytes .ensures ∙ ap₂ sameBytes (c .before .before .text-of .ensures) (c .before .text-of2 .ensures) ∙ sym (same.texts _ _ _ _ (c .before .before .before .before .before .if1 .left) (c .before .before .before .if2 .left))
+returns-3 c =
+    let first = c .before .before in
+    let string = first .before in
+    let same-tag = string .before .before in
+    c .same-bytes .ensures ∙ ap₂ sameBytes (first .text-of .ensures) (c .before .text-of2 .ensures)
+    ∙ sym (same.texts _ _ _ _ (same-tag .if1 .left) (string .if2 .left))
 
 pub same-key-spec : {M : Type 1} → statement M
 same-key-spec =

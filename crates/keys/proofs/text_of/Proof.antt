@@ -19,7 +19,9 @@ slice-aggregate-result-2 : tie.Need-slice-aggregate-result-2
 slice-aggregate-result-2 c = search needs
 
 returns-2 : tie.Need-returns-2
-returns-2 c = sym (same.text-long _ _ _ (omega (arith, c .before .before .if1 .left)) (c .before .if2 .taken))
+returns-2 c =
+    let long = c .before in
+    sym (same.text-long _ _ _ (omega (arith, long .before .if1 .left)) (long .if2 .taken))
 
 add-to : tie.Need-add-to
 add-to c = search needs
@@ -34,7 +36,9 @@ part-result-end : tie.Need-part-result-end
 part-result-end c = search needs
 
 returns-3 : tie.Need-returns-3
-returns-3 c = sym (same.text-part _ _ _ (omega (arith, c .before .before .if1 .left, c .before .if2 .left)))
+returns-3 c =
+    let fits = c .before in
+    sym (same.text-part _ _ _ (omega (arith, fits .before .if1 .left, fits .if2 .left)))
 
 pub text-of-spec : {M : Type 1} → statement M
 text-of-spec =

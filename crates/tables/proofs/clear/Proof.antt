@@ -32,20 +32,25 @@ loop-less c = search needs
 
 loop-again : tie.Need-loop-again Inv-loop μ-loop
 loop-again c =
-    let h = c .before .loop .inv in
-    let l : c .before .loop .i + 1 ≤ length (c .before .before .args .table .now) = omega arith in
-    (l, ap (λ (d : List ℕ). set d (c .before .loop .i) 0) (h .1) ∙ fill-more (c .before .loop .i) 0 (c .before .before .args .table .now) (omega arith), simp length-set (h .2))
+    let looped = c .before in
+    let i = looped .loop .i in
+    let table = looped .before .args .table .now in
+    let inv = looped .loop .inv in
+    let more : i + 1 ≤ length table = omega arith in
+    (more, ap (λ (d : List ℕ). set d i 0) (inv .1) ∙ fill-more i 0 table (omega arith), simp length-set (inv .2))
 
 same-length : tie.Need-same-length Inv-loop μ-loop
 same-length c = c .before .loop .inv .2
 
 returns : tie.Need-returns Inv-loop μ-loop
 returns c =
-    let h = c .before .loop .inv in
-    let n = length (c .before .before .args .table .now) in
-    let e : c .before .loop .i ≡ n = omega arith in
-    h .1 ∙ ap (λ (k : ℕ). replicate k 0 ++ drop k (c .before .before .args .table .now)) e
-    ∙ ap (λ (d : List ℕ). replicate n 0 ++ d) (drop-of-length-le (c .before .before .args .table .now) {i = n} (omega arith)) ∙ append-nil (replicate n 0)
+    let looped = c .before in
+    let table = looped .before .args .table .now in
+    let inv = looped .loop .inv in
+    let n = length table in
+    let all : looped .loop .i ≡ n = omega arith in
+    inv .1 ∙ ap (λ (k : ℕ). replicate k 0 ++ drop k table) all ∙ ap (λ (d : List ℕ). replicate n 0 ++ d) (drop-of-length-le table {i = n} (omega arith))
+    ∙ append-nil (replicate n 0)
 
 pub clear-spec : {M : Type 1} → statement M
 clear-spec =

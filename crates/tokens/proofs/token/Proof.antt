@@ -44,16 +44,26 @@ returns-2 : tie.Need-returns-2
 returns-2 c = answered (scanned.token-closing _ _ _ (omega (arith, c .before .before .if1 .left)) refl (c .match .keys1))
 
 returns-3 : tie.Need-returns-3
-returns-3 c = answered (scanned.token-array _ _ _ (omega (arith, c .before .before .before .if1 .left)) refl _ (c .before .match .keys2) (c .array .ensures .scans))
+returns-3 c =
+    let matched = c .before in
+    answered (scanned.token-array _ _ _ (omega (arith, matched .before .before .if1 .left)) refl _ (matched .match .keys2) (c .array .ensures .scans))
 
 returns-4 : tie.Need-returns-4
-returns-4 c = answered (scanned.token-object _ _ _ (omega (arith, c .before .before .before .if1 .left)) refl _ (c .before .match .keys3) (c .object .ensures .scans))
+returns-4 c =
+    let matched = c .before in
+    answered (scanned.token-object _ _ _ (omega (arith, matched .before .before .if1 .left)) refl _ (matched .match .keys3) (c .object .ensures .scans))
 
 returns-5 : tie.Need-returns-5
-returns-5 c = answered (scanned.token-reference _ _ _ (omega (arith, c .before .before .before .if1 .left)) refl _ (c .before .match .keys4) (c .named .ensures .scans))
+returns-5 c =
+    let matched = c .before in
+    answered (scanned.token-reference _ _ _ (omega (arith, matched .before .before .if1 .left)) refl _ (matched .match .keys4) (c .named .ensures .scans))
 
 returns-6 : tie.Need-returns-6
-returns-6 c = answered (scanned.token-scalar _ _ _ (omega (arith, c .before .before .before .if1 .left)) refl _ (c .before .match .rest .0 .0 .0 .1) (c .before .match .rest .0 .0 .1) (c .before .match .rest .0 .1) (c .before .match .rest .1) (c .scalar .ensures .scans))
+returns-6 c =
+    let matched = c .before in
+    let not = matched .match .rest in
+    answered (scanned.token-scalar _ _ _ (omega (arith, matched .before .before .if1 .left)) refl _ (not .0 .0 .0 .1) (not .0 .0 .1) (not .0 .1) (not .1)
+    (c .scalar .ensures .scans))
 
 pub token-spec : {M : Type 1} → statement M
 token-spec =
