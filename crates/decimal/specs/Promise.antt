@@ -16,7 +16,7 @@ pub record RunAt (source : List ℕ) (at cap : ℕ) (r : Run) : Type 0 where
 
 -- the shortest text of n stored from an index on, as far as there is room, and its length
 pub record Stored (before : List ℕ) (at n written : ℕ) (after : List ℕ) : Type 0 where
-  pub length : written ≡ length (decimal n)
+  pub size : written ≡ length (decimal n)
   pub output : after ≡ sets before at (decimal n)
 
 -- sign and magnitude of a word of so many bits

@@ -20,8 +20,8 @@ use Rattle.format.specs.Fits.{IsPlan}
 use Rattle.format.proofs.Inversion.{read-ok}
 use Rattle.format.proofs.Results.{after-length}
 use Rattle.format.specs.Writing.{fitsIn, withRoom, canonicalBytes}
-use Rattle.editor.specs.Promise.{answerOf, Writes}
-use Rattle.editor.specs.Ends.{Refuses, Settles, Short, Spared, shrinks, short, Roomed, Sound}
+use Rattle.editor.specs.Promise.{writingAnswer, Writes}
+use Rattle.editor.specs.Ends.{Refuses, Settles, Short, Spared, shrinks, short, Roomed, EditFits}
 use Rattle.tokens.specs.Tokens.{Token, tokens, writeTokens}
 use Rattle.tokens.specs.Between.{Stretch}
 use Rattle.tokens.proofs.TokenLaws.{tokens-write, tokens-canonical, tokens-fit}
@@ -32,7 +32,7 @@ use Rattle.rewriting.specs.Output.{Puts}
 use Rattle.rewriting.specs.Rewriting.{changedText}
 use Rattle.rewriting.specs.Edited.{canonicalText, editedText, writable, Parted}
 use Rattle.rewriting.specs.declared.inserted.Spot.{Spot}
-use Rattle.rewriting.proofs.Editable.{Kept, by-place, edited-most}
+use Rattle.rewriting.proofs.Editable.{Untouched, by-spot, edited-most}
 use Rattle.rewriting.proofs.Measures.{texts-inside, canonical-text-most}
 use Rattle.placing.specs.Locating.{Located}
 use Rattle.editor.specs.declared.Writing.{Writing}
@@ -91,7 +91,7 @@ module _ {text : Answer (List ℕ)} (source before out : List ℕ) where
   -- the definition's own refusal, with nothing written
   pub writes-refused : {after : List ℕ} {code at : ℕ} → text ≡ refused code at → after ≡ cleared before
       → Writes text source before after out out (Writing.Refused code at)
-  unfolding answerOf
+  unfolding writingAnswer
   writes-refused {after} {code} {at} e t =
       subst (λ (c : Answer (List ℕ)). Writes c source before after out out (Writing.Refused code at)) (sym e)
       (record { answer = refl; leaves = record { table = t; output = refl } })
@@ -110,7 +110,7 @@ module _ {text : Answer (List ℕ)} (source before out : List ℕ) where
     pub writes-text : {between : List ℕ} → between ≡ tableAfter source before → fitsIn (length out) (length bytes) ≡ true → {n : ℕ} {out′ : List ℕ}
         → Puts bytes 0 out n out′ → {after : List ℕ} {r : Writing} → Settles (take n out′) between after r
         → Writes text source before after out out′ r
-    unfolding answerOf
+    unfolding writingAnswer
     writes-text t f {n} {out′} put {after} {r} c =
         let same : take n out′ ≡ bytes = prefix put f in
         subst (λ (a : Answer (List ℕ)). Writes a source before after out out′ r) (sym (roomed true f))
@@ -122,7 +122,7 @@ module _ {text : Answer (List ℕ)} (source before out : List ℕ) where
 pub is-short : (room source key value : ℕ) → sourceLimit ≤ room → source ≤ 49000 → key ≤ 2000 → leb value 2000 ≡ true → Short room source key value
 is-short room source key value h i j e = record { enough = h; low = omega (arith, i, j, leb→le value 2000 (T-of e)) }
 
-short-room : {room : ℕ} (source : List ℕ) (e : Edit) (key value : List ℕ) → Short room (length source) (length key) (length value) → Sound source e key value
+short-room : {room : ℕ} (source : List ℕ) (e : Edit) (key value : List ℕ) → Short room (length source) (length key) (length value) → EditFits source e key value
     → writable (length source) e (length key) (length value) ≡ true → true ≡ fitsIn room (length (editedText source e key value))
 short-room {room} source e key value h z f =
     let n : ℕ = length (editedText source e key value) in
@@ -141,13 +141,13 @@ shrinks-room room source h =
     sym (rw (le-leb n room (omega (arith, canonical-text-most source, i)), le-leb n sourceLimit (omega (arith, canonical-text-most source, j))))
 
 pub spared-room : {room : ℕ} (source : List ℕ) (e : Edit) (key value : List ℕ) → Spared room e (length source) (length key) (length value)
-    → Sound source e key value → writable (length source) e (length key) (length value) ≡ true → true ≡ fitsIn room (length (editedText source e key value))
+    → EditFits source e key value → writable (length source) e (length key) (length value) ≡ true → true ≡ fitsIn room (length (editedText source e key value))
 spared-room {room} source Edit.Canonical key value (shrinks h) z f = shrinks-room room source h
 spared-room source e key value (short h) z f = short-room source e key value h z f
 
 module _ (source : List ℕ) (e : Edit) (key value : List ℕ) where
   -- what is not edited at all was not measured
-  pub unfit-roomed : {out part : List ℕ} → Kept source e key value [] part → Roomed source e key value out (part ++ out) false
+  pub unfit-roomed : {out part : List ℕ} → Untouched source e key value [] part → Roomed source e key value out (part ++ out) false
   unfit-roomed {out} k = record { same = ap (λ (p : List ℕ). p ++ out) (k .same); room = λ w. absurd (differ (sym w ∙ k .unfit)) }
 
   pub measured-roomed : (out : List ℕ) {n : ℕ} {part : List ℕ} → Puts (editedText source e key value) 0 [] n part → {r : Bool} → r ≡ fitsIn (length out) n
@@ -164,7 +164,7 @@ module _ {source : List ℕ} {e : Edit} {key value out out′ : List ℕ} {r : B
       → false ≡ fitsIn (length out) (length (editedText source e key value))
   room-missing i w = sym i ∙ g .room w
 
-module _ {source : List ℕ} {e : Edit} {key value : List ℕ} (z : Sound source e key value) {text : Answer (List ℕ)} (room : ℕ)
+module _ {source : List ℕ} {e : Edit} {key value : List ℕ} (z : EditFits source e key value) {text : Answer (List ℕ)} (room : ℕ)
     (f : text ≡ withRoom room (editedText source e key value)) where
   no-room : fitsIn room (length (editedText source e key value)) ≡ false → text ≡ refused 14 0
   no-room g = f ∙ ap (λ (b : Bool). require b 14 0 >>= λ u. ok (editedText source e key value)) g
@@ -184,7 +184,7 @@ module _ {source : List ℕ} {e : Edit} {key value : List ℕ} (z : Sound source
       by : Order sourceLimit (length key) → Order sourceLimit (length value) → text ≡ refused 14 0
       by (below h) j = too-long (z .key) h
       by (above h) (below i) = too-long (z .value) i
-      by (above h) (above i) = absurd (differ (sym (by-place (length source) e (length key) (length value) (z .short) h i ∙ z .place) ∙ g))
+      by (above h) (above i) = absurd (differ (sym (by-spot (length source) e (length key) (length value) (z .short) h i ∙ z .inside) ∙ g))
 
   pub full-14 : (writable (length source) e (length key) (length value) ≡ true → false ≡ fitsIn room (length (editedText source e key value)))
       → text ≡ refused 14 0
@@ -214,10 +214,10 @@ module _ (capacity : ℕ) (source : List ℕ) (v : Value) (e : read capacity sou
       ap (changedText Change.Canonical) (between-stretch whole-plan) ∙ ap (λ (ts : List Token). writeTokens ts []) (sym (tokens-canonical v))
       ∙ tokens-write (canonical v) []
 
-  pub canonical-sound : Sound source Edit.Canonical [] []
+  pub canonical-sound : EditFits source Edit.Canonical [] []
   canonical-sound = record {
     short = omega (arith, plan .fits .valid .short, ap length (plan .printed));
-    place = refl;
+    inside = refl;
     parted = λ p i. absurd (never i);
     key = omega arith;
     value = omega arith;
@@ -232,12 +232,12 @@ module _ (capacity : ℕ) (source : List ℕ) (v : Value) (e : read capacity sou
 -- ---- inserting
 
 pub insert-sound : {source : List ℕ} {node place : ℕ} {key value before after : List ℕ} {p : Spot} → Located source node place key value before after p
-    → Sound source (Edit.Insert p) key value
+    → EditFits source (Edit.Insert p) key value
 insert-sound {source} {key = key} {value} {p = p} l =
     let t = texts-inside source key value p in
     record {
       short = l .short;
-      place = l .stands;
+      inside = l .stands;
       parted = λ q i. subst (Parted source) (one i) (l .parted);
       key = t .0;
       value = t .1;

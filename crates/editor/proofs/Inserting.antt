@@ -12,7 +12,7 @@ use Rattle.format.specs.Writing.{insertBytes}
 use Rattle.format.proofs.Results.{after-length}
 use Rattle.format.proofs.Unique.{accepted-exactly}
 use Rattle.insertion.proofs.Inserting.{Inserted, inserted}
-use Rattle.insertion.proofs.Located.{locates}
+use Rattle.insertion.proofs.Ways.{locates}
 use Rattle.tokens.specs.Tokens.{Token, scalar, opening, closing, keyScalar, tokensIn, writeTokens, raisedToken, nodesOf}
 use Rattle.tokens.proofs.TokenLaws.{tokens-write}
 use Rattle.placing.proofs.PairParts.{upto, after}

@@ -10,7 +10,7 @@ use Rattle.format.specs.Reading.{cleared, tableAfter}
 use Rattle.format.specs.Writing.{fitsIn, withRoom}
 use Rattle.rewriting.specs.declared.Edit.{Edit}
 use Rattle.rewriting.specs.declared.inserted.Spot.{Spot}
-use Rattle.rewriting.specs.Edited.{editedText, placed, writable, Parted}
+use Rattle.rewriting.specs.Edited.{editedText, spotInside, writable, Parted}
 use Rattle.editor.specs.declared.Writing.{Writing}
 use Rattle.editor.specs.Promise.{Writes}
 
@@ -35,9 +35,9 @@ pub data Spared (room : ℕ) : Edit → (source key value : ℕ) → Type 0 wher
   short : {e : Edit} {source key value : ℕ} → Short room source key value → Spared room e source key value
 
 -- an edit of a plan that was read: it has its place there, and its texts are part of what is written
-pub record Sound (s : List ℕ) (e : Edit) (k v : List ℕ) : Type 0 where
+pub record EditFits (s : List ℕ) (e : Edit) (k v : List ℕ) : Type 0 where
   pub short : length s ≤ sourceLimit
-  pub place : placed (length s) e ≡ true
+  pub inside : spotInside (length s) e ≡ true
   pub parted : (p : Spot) → e ≡ Edit.Insert p → Parted s p
   pub key : length k ≤ length (editedText s e k v)
   pub value : length v ≤ length (editedText s e k v)

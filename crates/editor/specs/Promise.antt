@@ -12,9 +12,9 @@ abbrev pub lengthOf : (bytes : Answer (List ℕ)) → Answer ℕ
 lengthOf bytes = bytes >>= λ b. ok (length b)
 
 -- the paper's number and values for each case of the enum: the length; "A refusal returns its number and a position"
-unfoldable pub answerOf : Writing → Answer ℕ
-answerOf (Writing.Written length) = ok length
-answerOf (Writing.Refused code at) = refused code at
+unfoldable pub writingAnswer : Writing → Answer ℕ
+writingAnswer (Writing.Written size) = ok size
+writingAnswer (Writing.Refused code at) = refused code at
 
 -- "A service that writes a plan leaves the table that reading the plan given, if there was one, and then the plan written leaves"; "makes
 -- every word of the table zero"
@@ -34,5 +34,5 @@ pub record Leaves (bytes : Answer (List ℕ)) (source before after out out′ : 
 
 -- demands 1 and 2 for a service that writes: the answer, and all that it leaves, for every input
 pub record Writes (bytes : Answer (List ℕ)) (source before after out out′ : List ℕ) (r : Writing) : Type 0 where
-  pub answer : answerOf r ≡ lengthOf bytes
+  pub answer : writingAnswer r ≡ lengthOf bytes
   pub leaves : Leaves bytes source before after out out′

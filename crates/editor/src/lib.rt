@@ -16,7 +16,7 @@ ghost use lib.ListN.{length};
 ghost use Rattle.format.specs.Reading.{capacityOf};
 ghost use Rattle.format.specs.Writing.{fitsIn, canonicalBytes, insertBytes};
 ghost use Rattle.editor.specs.Promise.{Writes};
-ghost use Rattle.editor.specs.Ends.{Refuses, Settles, Short, Spared, Sound, Roomed, Finishes};
+ghost use Rattle.editor.specs.Ends.{Refuses, Settles, Short, Spared, EditFits, Roomed, Finishes};
 
 // What is written of so short a source, key and value is never longer than a plan may be (`edited-most`, crates/rewriting): a reference has four bytes or more
 // and grows by one at the most, and the parts of an insertion are stretches of the source, which placing promises (`Parted`). So five quarters of the source,
@@ -88,7 +88,7 @@ fn is_spared(room: usize, edit: Edit, source: usize, key: usize, value: usize) -
 // Whether there is room for the edited plan. Written where there is none for any of it, in the empty part of the output, a longer one is only measured: so one
 // loop measures and writes, and a refusal has written nothing.
 fn room_for(source: &[u8], edit: Edit, key: &[u8], value: &[u8], out: &mut [u8]) -> bool
-    requires { ⌜ Sound (now source) edit (now key) (now value) ⌝ }
+    requires { ⌜ EditFits (now source) edit (now key) (now value) ⌝ }
     ensures { λ r. ⌜ Roomed (now (source .entry)) edit (now (key .entry)) (now (value .entry)) (now (out .entry)) (now (out .exit)) r ⌝ }
 {
     let room = out.len();
@@ -111,7 +111,7 @@ fn write_plan(
     table: &mut [u64],
     out: &mut [u8],
 ) -> Writing
-    requires { ⌜ Sound (now source) edit (now key) (now value) ⌝ }
+    requires { ⌜ EditFits (now source) edit (now key) (now value) ⌝ }
     ensures { λ r. ⌜ Finishes (now (source .entry)) edit (now (key .entry)) (now (value .entry))
         (now (table .entry)) (now (table .exit)) (now (out .entry)) (now (out .exit)) r ⌝ }
 {

@@ -45,17 +45,17 @@ pub int-same : (x : Literal) → integer (shortestInt x) ≡ integer x
 int-same x = ap integer (sym (literal-shortest x)) ∙ literal-means (integer x)
 
 -- keys, scalars and containers mean the same
-abbrev pub textOf : Quoted → List ℕ
-textOf q = q .text
+abbrev pub quotedBytes : Quoted → List ℕ
+quotedBytes q = q .text
 
 key-same : (k : Key) → keyMeaning (canonicalKey k) ≡ keyMeaning k
-key-same k = key-map shortestInt shortestQuoted integer textOf integer textOf int-same (λ q. refl) k
+key-same k = key-map shortestInt shortestQuoted integer quotedBytes integer quotedBytes int-same (λ q. refl) k
 
 scalar-same : (x : Scalar) → scalarMeaning (canonicalScalar x) ≡ scalarMeaning x
-scalar-same x = scalar-map shortestInt shortestQuoted integer textOf integer textOf int-same (λ q. refl) x
+scalar-same x = scalar-map shortestInt shortestQuoted integer quotedBytes integer quotedBytes int-same (λ q. refl) x
 
-container-same : (c : Container) → mapContainer textOf (mapContainer shortestQuoted c) ≡ mapContainer textOf c
-container-same c = container-map shortestQuoted textOf textOf (λ q. refl) c
+container-same : (c : Container) → mapContainer quotedBytes (mapContainer shortestQuoted c) ≡ mapContainer quotedBytes c
+container-same c = container-map shortestQuoted quotedBytes quotedBytes (λ q. refl) c
 
 -- CANONICAL TEXT MEANS THE SAME
 pub canonical-meaning : (v : Value) → meaning (canonical v) ≡ meaning v

@@ -17,7 +17,7 @@ use Rattle.format.specs.Fits.{Backward, BackwardIn, Valid}
 use Rattle.format.specs.Meaning.{Meaning, meaning, scalarMeaning, HeadMeaning, headMeaning, ReferenceMeaning, referenceMeaning}
 use Rattle.format.specs.Canonical.{shortest, shortestInt, shortestQuoted, canonicalKey, canonicalScalar, canonicalHead, canonicalReference, canonical}
 use Rattle.format.proofs.Maps.{Refs, RefsIn, paths-map, ordinals-map, map-map, key-map, scalar-map, container-map}
-use Rattle.format.proofs.NormalForm.{literalOf, quotedOf, literal-shortest, textOf, canonical-valid, canonical-meaning}
+use Rattle.format.proofs.NormalForm.{literalOf, quotedOf, literal-shortest, quotedBytes, canonical-valid, canonical-meaning}
 use Rattle.format.proofs.Unique.{unique}
 
 -- ---- lists
@@ -34,26 +34,26 @@ pub one-most : (b : Bool) → one b ≤ 1
 one-most true = omega arith
 one-most false = omega arith
 
--- ---- the rank of a path: how many ordinals are taken before the value there
+-- ---- the pathRank of a path: how many ordinals are taken before the value there
 module _ {K L H R : Type 0} (own : R → Bool) where
   abbrev mutual
-    pub rank : Tree K L H R → TreePath → ℕ
-    rank (leaf l) a = 0
-    rank (ref r) a = 0
-    rank (branch h ps) [] = 0
-    rank (branch h ps) (q ∷ a) = suc (rankIn ps q a)
+    pub pathRank : Tree K L H R → TreePath → ℕ
+    pathRank (leaf l) a = 0
+    pathRank (ref r) a = 0
+    pathRank (branch h ps) [] = 0
+    pathRank (branch h ps) (q ∷ a) = suc (pathRankIn ps q a)
 
-    pub rankIn : Pairs K L H R → ℕ → TreePath → ℕ
-    rankIn none q a = 0
-    rankIn (pair k v ps) zero a = rank v a
-    rankIn (pair k v ps) (suc q) a = ordinals own v + rankIn ps q a
+    pub pathRankIn : Pairs K L H R → ℕ → TreePath → ℕ
+    pathRankIn none q a = 0
+    pathRankIn (pair k v ps) zero a = pathRank v a
+    pathRankIn (pair k v ps) (suc q) a = ordinals own v + pathRankIn ps q a
 
-  -- entry i of the paths of pairs that begin at place b leads through some place, and has rank i
-  record Found (ps : Pairs K L H R) (b i : ℕ) : Type 0 where
+  -- entry i of the paths of pairs that begin at place b leads through some place, and has pathRank i
+  record PathFound (ps : Pairs K L H R) (b i : ℕ) : Type 0 where
     place : ℕ
     rest : TreePath
     is : getD (pathsIn own b ps) i [] ≡ (b + place) ∷ rest
-    ranked : rankIn ps place rest ≡ i
+    ranked : pathRankIn ps place rest ≡ i
 
   mutual
     pub paths-length : (v : Tree K L H R) → length (paths own v) ≡ ordinals own v
@@ -65,7 +65,7 @@ module _ {K L H R : Type 0} (own : R → Bool) where
     pathsIn-length q none = refl
     pathsIn-length q (pair k v ps) = simp (length-append, length-map) (ap₂ _+_ (paths-length v) (pathsIn-length (suc q) ps))
 
-  found-first : (k : K) (v : Tree K L H R) (ps : Pairs K L H R) (b i : ℕ) → i < ordinals own v → rank v (getD (paths own v) i []) ≡ i → Found (pair k v ps) b i
+  found-first : (k : K) (v : Tree K L H R) (ps : Pairs K L H R) (b i : ℕ) → i < ordinals own v → pathRank v (getD (paths own v) i []) ≡ i → PathFound (pair k v ps) b i
   found-first k v ps b i h e =
       let l : i < length (paths own v) = omega (arith, paths-length v) in
       let under : List TreePath = map (λ (a : TreePath). b ∷ a) (paths own v) in
@@ -77,7 +77,7 @@ module _ {K L H R : Type 0} (own : R → Bool) where
         ranked = e;
       }
 
-  found-later : (k : K) (v : Tree K L H R) (ps : Pairs K L H R) (b i : ℕ) → ordinals own v ≤ i → Found ps (suc b) (i - ordinals own v) → Found (pair k v ps) b i
+  found-later : (k : K) (v : Tree K L H R) (ps : Pairs K L H R) (b i : ℕ) → ordinals own v ≤ i → PathFound ps (suc b) (i - ordinals own v) → PathFound (pair k v ps) b i
   found-later k v ps b i h f =
       let under : List TreePath = map (λ (a : TreePath). b ∷ a) (paths own v) in
       let j : ℕ = i - ordinals own v in
@@ -91,20 +91,20 @@ module _ {K L H R : Type 0} (own : R → Bool) where
       }
 
   mutual
-    pub rank-path : (v : Tree K L H R) (i : ℕ) → i < ordinals own v → rank v (getD (paths own v) i []) ≡ i
+    pub rank-path : (v : Tree K L H R) (i : ℕ) → i < ordinals own v → pathRank v (getD (paths own v) i []) ≡ i
     rank-path (leaf l) i h = omega arith
     rank-path (ref r) i h = omega (arith, one-most (own r))
     rank-path (branch h ps) zero l = refl
     rank-path (branch h ps) (suc i) l = through (rankIn-path ps 0 i (omega arith))
       where
-        through : Found ps 0 i → rank (branch h ps) (getD (pathsIn own 0 ps) i []) ≡ suc i
+        through : PathFound ps 0 i → pathRank (branch h ps) (getD (pathsIn own 0 ps) i []) ≡ suc i
         through f = rw (f .is, zero-add (f .place)) (ap suc (f .ranked))
 
-    rankIn-path : (ps : Pairs K L H R) (b i : ℕ) → i < ordinalsIn own ps → Found ps b i
+    rankIn-path : (ps : Pairs K L H R) (b i : ℕ) → i < ordinalsIn own ps → PathFound ps b i
     rankIn-path none b i h = absurd (omega arith)
     rankIn-path (pair k v ps) b i h = which (order i (ordinals own v)) (λ l. rank-path v i l) (λ l. rankIn-path ps (suc b) (i - ordinals own v) l)
       where
-        which : Order i (ordinals own v) → (i < ordinals own v → rank v (getD (paths own v) i []) ≡ i) → (i - ordinals own v < ordinalsIn own ps → Found ps (suc b) (i - ordinals own v)) → Found (pair k v ps) b i
+        which : Order i (ordinals own v) → (i < ordinals own v → pathRank v (getD (paths own v) i []) ≡ i) → (i - ordinals own v < ordinalsIn own ps → PathFound ps (suc b) (i - ordinals own v)) → PathFound (pair k v ps) b i
         which (below l) f g = found-first k v ps b i l (f l)
         which (above l) f g = found-later k v ps b i l (g (omega arith))
 
@@ -115,9 +115,9 @@ headOf h = record { container = mapContainer quotedOf h; spelling = shortest }
 abbrev pub ownMeaning : ReferenceMeaning → Bool
 ownMeaning r = hasOrdinal (tag (refKind (r .kind)))
 
--- the ordinal of the value that is named is one more than its path's rank
+-- the ordinal of the value that is named is one more than its path's pathRank
 abbrev referenceOf : Meaning → ReferenceMeaning → Reference
-referenceOf m r = record { kind = r .kind; spelling = shortest; named = suc (rank ownMeaning m (r .names)) }
+referenceOf m r = record { kind = r .kind; spelling = shortest; named = suc (pathRank ownMeaning m (r .names)) }
 
 unfoldable pub canonicalOf : Meaning → Value
 canonicalOf m = mapTree (mapKey literalOf quotedOf) (mapScalar literalOf quotedOf) headOf (referenceOf m) m
@@ -151,13 +151,13 @@ unfolding canonicalOf meaning canonical
 canonical-of-meaning v f =
     map-map keyMeaning scalarMeaning headMeaning (referenceMeaning (paths own v)) (mapKey literalOf quotedOf) (mapScalar literalOf quotedOf) headOf (referenceOf (meaning v))
     canonicalKey canonicalScalar canonicalHead canonicalReference (Taken (ordinals own v))
-    (key-map integer textOf literalOf quotedOf shortestInt shortestQuoted literal-shortest (λ q. refl)) (scalar-map integer textOf literalOf quotedOf shortestInt shortestQuoted literal-shortest (λ q. refl))
-    (λ h. ap (λ (c : Container). record { container = c; spelling = shortest }) (container-map textOf quotedOf shortestQuoted (λ q. refl) (h .container))) reference-of v (refs-taken (ordinals own v) v 0 (f .backward) (omega arith))
+    (key-map integer quotedBytes literalOf quotedOf shortestInt shortestQuoted literal-shortest (λ q. refl)) (scalar-map integer quotedBytes literalOf quotedOf shortestInt shortestQuoted literal-shortest (λ q. refl))
+    (λ h. ap (λ (c : Container). record { container = c; spelling = shortest }) (container-map quotedBytes quotedOf shortestQuoted (λ q. refl) (h .container))) reference-of v (refs-taken (ordinals own v) v 0 (f .backward) (omega arith))
   where
     reference-of : (r : Reference) → Taken (ordinals own v) r → referenceOf (meaning v) (referenceMeaning (paths own v) r) ≡ canonicalReference r
     reference-of r t =
         ap (λ (n : ℕ). record { kind = r .kind; spelling = shortest; named = n })
-        (ap suc (ap (λ (ps : List TreePath). rank ownMeaning (meaning v) (getD ps (r .named - 1) [])) (sym (meaning-paths v)) ∙ rank-path ownMeaning (meaning v) (r .named - 1) (omega (arith, meaning-ordinals v))) ∙ omega arith)
+        (ap suc (ap (λ (ps : List TreePath). pathRank ownMeaning (meaning v) (getD ps (r .named - 1) [])) (sym (meaning-paths v)) ∙ rank-path ownMeaning (meaning v) (r .named - 1) (omega (arith, meaning-ordinals v))) ∙ omega arith)
 
 -- ONE CANONICAL TEXT: the same for two plans exactly when their meanings are the same
 pub one-canonical-text : (v w : Value) → Valid v → Valid w → (print (canonical v) ≡ print (canonical w)) ↔ (meaning v ≡ meaning w)

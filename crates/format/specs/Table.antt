@@ -133,11 +133,11 @@ withoutOffset n = record {
 }
 
 -- two tables of so many nodes, the same but for text offsets, with the same words behind them
-pub record SameButOffsets (count : ℕ) (one other : List ℕ) : Type 0 where
+pub record SameButOffsets (count : ℕ) (t t′ : List ℕ) : Type 0 where
   pub nodes : List Node
   pub counted : length nodes ≡ count
   pub others : List Node
   pub rest : List ℕ
-  pub first : one ≡ flat nodes ++ rest
-  pub second : other ≡ flat others ++ rest
+  pub first : t ≡ flat nodes ++ rest
+  pub second : t′ ≡ flat others ++ rest
   pub same : map withoutOffset others ≡ map withoutOffset nodes

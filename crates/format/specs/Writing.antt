@@ -14,8 +14,8 @@ use Rattle.format.specs.Canonical.{canonical}
 use Rattle.format.specs.Edit.{keys, insert}
 
 -- 14: "bytes to write exceed the output's length or 65,536"
-abbrev pub fitsIn : (room length : ℕ) → Bool
-fitsIn room length = leb length room && leb length sourceLimit
+abbrev pub fitsIn : (room size : ℕ) → Bool
+fitsIn room size = leb size room && leb size sourceLimit
 
 abbrev pub withRoom : (room : ℕ) → (bytes : List ℕ) → Answer (List ℕ)
 withRoom room bytes = do

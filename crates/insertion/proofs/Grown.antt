@@ -11,7 +11,7 @@ use Rattle.format.specs.Syntax.{Key, Scalar, Head, Value, Values, own}
 use Rattle.format.specs.Edit.{putPair, atPlace, atPath, ordinalsUpto, ordinalsWithin, ordinalsBefore}
 use Rattle.format.proofs.OneText.{paths-length}
 use Rattle.insertion.specs.Shift.{shift}
-use Rattle.insertion.proofs.Located.{Locates, found, inside, LocatesIn, first, later}
+use Rattle.insertion.proofs.Ways.{WayTo, found, inside, WayIn, first, later}
 
 -- ---- a list of paths grown by one at entry n, the others moved
 pub record Grown (old new : List TreePath) (n : ℕ) (move : TreePath → TreePath) (path : TreePath) : Type 0 where
@@ -162,12 +162,12 @@ module _ (f : Head → Head) (p : ℕ) (k : Key) (x : Scalar) where
 
   mutual
     -- THE LAW OF INSERTION: the paths of the values that take a number are the old ones, shifted, and the new value's
-    pub grown : {v : Value} {i : ℕ} {a : TreePath} {qs : Values} → Locates v i a qs → p ≤ count qs
+    pub grown : {v : Value} {i : ℕ} {a : TreePath} {qs : Values} → WayTo v i a qs → p ≤ count qs
         → Grown (paths own v) (paths own (put a v)) (ordinalsBefore own a p v) (shift a p) (a ++ (p ∷ []))
     grown (found h ps c) m = grown-head (grown-pairs p 0 p (omega arith) ps m) refl
     grown (inside h {q = q} w) m = grown-head (grown-in w 0 q (omega arith) m) refl
 
-    grown-in : {ps : Values} {i q : ℕ} {a : TreePath} {qs : Values} → LocatesIn ps i q a qs → (b t : ℕ) → b + q ≡ t → p ≤ count qs
+    grown-in : {ps : Values} {i q : ℕ} {a : TreePath} {qs : Values} → WayIn ps i q a qs → (b t : ℕ) → b + q ≡ t → p ≤ count qs
         → Grown (pathsIn own b ps) (pathsIn own b (atPlace q (put a) ps)) (ordinalsWithin own q (ordinalsBefore own a p) ps) (shift (t ∷ a) p)
         (t ∷ (a ++ (p ∷ [])))
     grown-in (first k ps {a = a} w) b t e m =

@@ -23,7 +23,7 @@ use Rattle.format.proofs.Answers.{ok-same, bind-ok, require-ok}
 use Rattle.format.proofs.Inversion.{read-ok}
 use Rattle.format.proofs.Unique.{one-meaning}
 use Rattle.insertion.specs.Shift.{shift, insertMeaning}
-use Rattle.insertion.proofs.Located.{locates}
+use Rattle.insertion.proofs.Ways.{locates}
 use Rattle.insertion.proofs.SiteRows.{site-followed}
 use Rattle.insertion.proofs.Meanings.{meaning-insert, new-number, lower-numbers, higher-numbers}
 use Rattle.insertion.proofs.Kept.{nodes-insert, ordinals-insert, insert-valid}

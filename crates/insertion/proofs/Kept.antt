@@ -17,7 +17,7 @@ use Rattle.format.specs.Edit.{insert}
 use Rattle.format.proofs.Keys.{equal-keys}
 use Rattle.format.proofs.Maps.{nodes-map, ordinals-map}
 use Rattle.format.proofs.OneText.{Taken, paths-length}
-use Rattle.insertion.proofs.Located.{Locates, found, inside, LocatesIn, first, later}
+use Rattle.insertion.proofs.Ways.{WayTo, found, inside, WayIn, first, later}
 use Rattle.insertion.proofs.Grown.{grown, grown-length}
 use Rattle.insertion.proofs.Meanings.{raised-low, raised-high, raised-own}
 use Rattle.insertion.proofs.Sizes.{write-longer, limited}
@@ -136,12 +136,12 @@ module _ (p : ℕ) (k : Key) (x : Scalar) where
   put a v = atPath countShortest (putPair p k (leaf x)) a v
 
   mutual
-    sound-put-at : {v : Value} {i : ℕ} {a : TreePath} {qs : Values} → Locates v i a qs → KeyFits k → ScalarFits x → T (not (hasKey k (keys qs))) → Sound v
+    sound-put-at : {v : Value} {i : ℕ} {a : TreePath} {qs : Values} → WayTo v i a qs → KeyFits k → ScalarFits x → T (not (hasKey k (keys qs))) → Sound v
         → Sound (put a v)
     sound-put-at (found h ps c) f g n s = let any : T (allowed (h .container) k) = rw c tt in (s .0, sound-put (h .container) k x f any g p [] ps tt n (s .1))
     sound-put-at (inside h w) f g n s = (s .0, sound-put-in w (h .container) [] f g n (s .1))
 
-    sound-put-in : {ps : Values} {i q : ℕ} {a : TreePath} {qs : Values} → LocatesIn ps i q a qs → (c : Container) (js : List Key) → KeyFits k → ScalarFits x
+    sound-put-in : {ps : Values} {i q : ℕ} {a : TreePath} {qs : Values} → WayIn ps i q a qs → (c : Container) (js : List Key) → KeyFits k → ScalarFits x
         → T (not (hasKey k (keys qs)))
         → SoundIn c js ps → SoundIn c js (atPlace q (put a) ps)
     sound-put-in (first j ps w) c js f g n s = (s .0, s .1, s .2, sound-put-at w f g n (s .3), s .4)
@@ -153,11 +153,11 @@ module _ (p : ℕ) (k : Key) (x : Scalar) where
   shallow-put (suc p) d (pair j v ps) h s = (s .0, shallow-put p d ps h (s .1))
 
   mutual
-    shallow-put-at : {v : Value} {i : ℕ} {a : TreePath} {qs : Values} → Locates v i a qs → (d : ℕ) → suc (length a) < d → Shallow d v → Shallow d (put a v)
+    shallow-put-at : {v : Value} {i : ℕ} {a : TreePath} {qs : Values} → WayTo v i a qs → (d : ℕ) → suc (length a) < d → Shallow d v → Shallow d (put a v)
     shallow-put-at (found h ps c) d m s = (s .0, shallow-put p (d - 1) ps (omega arith) (s .1))
     shallow-put-at (inside h w) d m s = (s .0, shallow-put-in w (d - 1) (omega arith) (s .1))
 
-    shallow-put-in : {ps : Values} {i q : ℕ} {a : TreePath} {qs : Values} → LocatesIn ps i q a qs → (d : ℕ) → suc (length a) < d → ShallowIn d ps
+    shallow-put-in : {ps : Values} {i q : ℕ} {a : TreePath} {qs : Values} → WayIn ps i q a qs → (d : ℕ) → suc (length a) < d → ShallowIn d ps
         → ShallowIn d (atPlace q (put a) ps)
     shallow-put-in (first j ps w) d m s = (shallow-put-at w d m (s .0), s .1)
     shallow-put-in (later j v e w) d m s = (s .0, shallow-put-in w d m (s .1))
@@ -168,15 +168,15 @@ module _ (p : ℕ) (k : Key) (x : Scalar) where
   nodes-put (suc p) (pair j v ps) = omega (arith, nodes-put p ps)
 
   mutual
-    nodes-put-at : {v : Value} {i : ℕ} {a : TreePath} {qs : Values} → Locates v i a qs → nodes (put a v) ≡ nodes v + 2
+    nodes-put-at : {v : Value} {i : ℕ} {a : TreePath} {qs : Values} → WayTo v i a qs → nodes (put a v) ≡ nodes v + 2
     nodes-put-at (found h ps c) = omega (arith, nodes-put p ps)
     nodes-put-at (inside h w) = omega (arith, nodes-put-in w)
 
-    nodes-put-in : {ps : Values} {i q : ℕ} {a : TreePath} {qs : Values} → LocatesIn ps i q a qs → nodesIn (atPlace q (put a) ps) ≡ nodesIn ps + 2
+    nodes-put-in : {ps : Values} {i q : ℕ} {a : TreePath} {qs : Values} → WayIn ps i q a qs → nodesIn (atPlace q (put a) ps) ≡ nodesIn ps + 2
     nodes-put-in (first j ps w) = omega (arith, nodes-put-at w)
     nodes-put-in (later j v e w) = omega (arith, nodes-put-in w)
 
-  ordinals-put : {v : Value} {i : ℕ} {a : TreePath} {qs : Values} → Locates v i a qs → p ≤ count qs → ordinals own (put a v) ≡ suc (ordinals own v)
+  ordinals-put : {v : Value} {i : ℕ} {a : TreePath} {qs : Values} → WayTo v i a qs → p ≤ count qs → ordinals own (put a v) ≡ suc (ordinals own v)
   ordinals-put {v} {a = a} w m = sym (paths-length own (put a v)) ∙ grown-length (grown countShortest p k x w m) ∙ ap suc (paths-length own v)
 
   module _ (n : ℕ) where
@@ -188,13 +188,13 @@ module _ (p : ℕ) (k : Key) (x : Scalar) where
         (backward-before n t v (omega arith) (b .0), rw (ordinals-same n v) (backward-put p (t + ordinals own v) ps (omega arith) (omega arith) (b .1)))
 
     mutual
-      backward-put-at : {v : Value} {i : ℕ} {a : TreePath} {qs : Values} → Locates v i a qs → p ≤ count qs → (seen : Seen)
+      backward-put-at : {v : Value} {i : ℕ} {a : TreePath} {qs : Values} → WayTo v i a qs → p ≤ count qs → (seen : Seen)
           → n ≡ suc (seen + ordinalsBefore own a p v) → Backward seen v
           → Backward seen (renumbered n (put a v))
       backward-put-at (found h ps c) m t e b = backward-put p (suc t) ps m (omega arith) b
       backward-put-at (inside h w) m t e b = backward-put-in w m (suc t) (omega arith) b
 
-      backward-put-in : {ps : Values} {i q : ℕ} {a : TreePath} {qs : Values} → LocatesIn ps i q a qs → p ≤ count qs → (seen : Seen)
+      backward-put-in : {ps : Values} {i q : ℕ} {a : TreePath} {qs : Values} → WayIn ps i q a qs → p ≤ count qs → (seen : Seen)
           → n ≡ suc (seen + ordinalsWithin own q (ordinalsBefore own a p) ps) → BackwardIn seen ps
           → BackwardIn seen (renumberedIn n (atPlace q (put a) ps))
       backward-put-in (first j {v} ps {a = a} w) m t e b =
@@ -204,7 +204,7 @@ module _ (p : ℕ) (k : Key) (x : Scalar) where
           (backward-before n t v (omega arith) (b .0), rw (ordinals-same n v) (backward-put-in w m (t + ordinals own v) (omega arith) (b .1)))
 
 -- ---- the whole plan
-module _ {v : Value} {node : ℕ} {a : TreePath} {qs : Values} (way : Locates v node a qs) (p : ℕ) (within : p ≤ count qs) (k : Key) (x : Scalar) where
+module _ {v : Value} {node : ℕ} {a : TreePath} {qs : Values} (way : WayTo v node a qs) (p : ℕ) (within : p ≤ count qs) (k : Key) (x : Scalar) where
   pub nodes-insert : nodes (insert a p k x v) ≡ nodes v + 2
   unfolding insert
   nodes-insert = nodes-map (λ j. j) (λ y. y) (λ h. h) (raised (newOrdinal a p v)) (put p k x a v) ∙ nodes-put-at p k x way

@@ -1,4 +1,4 @@
-pub mod Located
+pub mod Ways
 pub mod SiteRows
 pub mod Grown
 pub mod Meanings

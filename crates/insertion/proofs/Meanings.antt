@@ -16,7 +16,7 @@ use Rattle.format.specs.Edit.{putPair, atPlace, atPath, ordinalsBefore, newOrdi
 use Rattle.format.proofs.Maps.{refs-all, paths-map, map-map}
 use Rattle.format.proofs.OneText.{Taken, refs-taken}
 use Rattle.insertion.specs.Shift.{shift, shifted, insertMeaning}
-use Rattle.insertion.proofs.Located.{Locates}
+use Rattle.insertion.proofs.Ways.{WayTo}
 use Rattle.insertion.proofs.Grown.{Grown, grown-new, grown-low, grown-high, grown, shift-empty}
 
 -- ---- a change and a map may change places
@@ -73,7 +73,7 @@ names-shifted {old} {new} {n} a p g r h = go (order (r .named) (suc n))
         ap (naming r) (sym (grown-high g (shift-empty a p) (r .named - 1) (omega arith)) ∙ ap (λ (i : ℕ). getD new i []) e)
         ∙ ap (referenceMeaning new) (sym (raised-high (suc n) r s))
 
-module _ {v : Value} {node : ℕ} {a : TreePath} {qs : Values} (way : Locates v node a qs) (p : ℕ) (within : p ≤ count qs) (k : Key) (x : Scalar) where
+module _ {v : Value} {node : ℕ} {a : TreePath} {qs : Values} (way : WayTo v node a qs) (p : ℕ) (within : p ≤ count qs) (k : Key) (x : Scalar) where
   abbrev opened : Value
   opened = atPath countShortest (putPair p k (leaf x)) a v
 

@@ -25,12 +25,12 @@ use Rattle.format.proofs.Answers.{refused-same, not-both, bind-refused}
 use Rattle.format.proofs.Rows.{at-first}
 use Rattle.format.proofs.Places.{InTable, PairsInTable, contents-in, first-in, others-in, contents-text, value-text, others-text}
 use Rattle.format.proofs.Tables.{end-is, whole}
-use Rattle.insertion.proofs.Located.{Locates, found, inside, LocatesIn, first, later, locates}
+use Rattle.insertion.proofs.Ways.{WayTo, found, inside, WayIn, first, later, locates}
 
 -- ---- the array's row, the rows of its pairs and their bytes
 module _ (rows : List Node) (to : ℕ → ℕ) (source : List ℕ) where
   -- the array of these pairs at node `at`; `n` is the next ordinal where a part of the plan begins, of which `before p` are taken before place p
-  record Stands (at n : ℕ) (before : ℕ → ℕ) (ps : Values) : Type 0 where
+  record ArrayRows (at n : ℕ) (before : ℕ → ℕ) (ps : Values) : Type 0 where
     ordinal : ℕ
     offset : ℕ
     rest : List Node
@@ -41,7 +41,7 @@ module _ (rows : List Node) (to : ℕ → ℕ) (source : List ℕ) where
     some : n ≤ ordinal
 
   -- the same, for a part of the plan that begins earlier
-  earlier : {at m n : ℕ} {f g : ℕ → ℕ} {ps : Values} → m ≤ n → ((p : ℕ) → m + g p ≡ n + f p) → Stands at n f ps → Stands at m g ps
+  earlier : {at m n : ℕ} {f g : ℕ → ℕ} {ps : Values} → m ≤ n → ((p : ℕ) → m + g p ≡ n + f p) → ArrayRows at n f ps → ArrayRows at m g ps
   earlier h e s =
       record {
         ordinal = s .ordinal;
@@ -57,12 +57,12 @@ module _ (rows : List Node) (to : ℕ → ℕ) (source : List ℕ) where
   mutual
     unfolding write
 
-    stands : {v : Value} {j : ℕ} {a : TreePath} {qs : Values} → Locates v j a qs → (o i n at : ℕ) → at ≡ i + j → (r : List ℕ) → InTable rows to o i n v
+    stands : {v : Value} {j : ℕ} {a : TreePath} {qs : Values} → WayTo v j a qs → (o i n at : ℕ) → at ≡ i + j → (r : List ℕ) → InTable rows to o i n v
         → drop o source ≡ write v r
-        → Stands at n (λ p. ordinalsBefore own a p v) qs
+        → ArrayRows at n (λ p. ordinalsBefore own a p v) qs
     stands (found h ps c) o i n at e r t x =
         let a : i ≡ at = omega arith in
-        subst (λ (m : ℕ). Stands m n (λ p. suc (ordinalsUpto own p ps)) ps) a (record {
+        subst (λ (m : ℕ). ArrayRows m n (λ p. suc (ordinalsUpto own p ps)) ps) a (record {
           ordinal = n;
           offset = pairsOffset o h (count ps);
           rest = t .rest;
@@ -79,9 +79,9 @@ module _ (rows : List Node) (to : ℕ → ℕ) (source : List ℕ) where
         (stands-in w (pairsOffset o h (count ps)) (suc i) (suc n) at (omega arith) (byte "}" ∷ r) (contents-in rows to o i n h ps t)
         (contents-text source o h (count ps) (writePairs ps (byte "}" ∷ r)) x))
 
-    stands-in : {ps : Values} {j q : ℕ} {a : TreePath} {qs : Values} → LocatesIn ps j q a qs → (o i n at : ℕ) → at ≡ i + j → (r : List ℕ)
+    stands-in : {ps : Values} {j q : ℕ} {a : TreePath} {qs : Values} → WayIn ps j q a qs → (o i n at : ℕ) → at ≡ i + j → (r : List ℕ)
         → PairsInTable rows to o i n ps → drop o source ≡ writePairs ps r
-        → Stands at n (λ p. ordinalsWithin own q (ordinalsBefore own a p) ps) qs
+        → ArrayRows at n (λ p. ordinalsWithin own q (ordinalsBefore own a p) ps) qs
     stands-in (first k {v} ps w) o i n at e r t x =
         stands w (valueOffset o k) (suc i) n at (omega arith) (writePairs ps r) (first-in rows to o i n k v ps t)
         (value-text source o k (write v (writePairs ps r)) x)
@@ -121,13 +121,13 @@ in-plan v node s e =
 -- ---- the array's path leads to its node
 module _ (rows : List Node) (to : ℕ → ℕ) where
   mutual
-    leads : {v : Value} {j : ℕ} {a : TreePath} {qs : Values} → Locates v j a qs → (o i n at : ℕ) → at ≡ i + j → InTable rows to o i n v → follow rows i a ≡ at
+    leads : {v : Value} {j : ℕ} {a : TreePath} {qs : Values} → WayTo v j a qs → (o i n at : ℕ) → at ≡ i + j → InTable rows to o i n v → follow rows i a ≡ at
     leads (found h ps c) o i n at e t = omega arith
     leads (inside h {ps} {q = q} w) o i n at e t =
         leads-in w (pairsOffset o h (count ps)) (suc i) (suc n) at (omega arith) (suc i) 0 q (omega arith) (contents-in rows to o i n h ps t) refl
 
     -- in pairs that begin at node i, with the pair at place b of those that begin at node `start`
-    leads-in : {ps : Values} {j q : ℕ} {a : TreePath} {qs : Values} → LocatesIn ps j q a qs → (o i n at : ℕ) → at ≡ i + j → (start b m : ℕ) → b + q ≡ m
+    leads-in : {ps : Values} {j q : ℕ} {a : TreePath} {qs : Values} → WayIn ps j q a qs → (o i n at : ℕ) → at ≡ i + j → (start b m : ℕ) → b + q ≡ m
         → PairsInTable rows to o i n ps → pairAt rows start b ≡ i
         → follow rows (suc (pairAt rows start m)) a ≡ at
     leads-in (first k {v} ps {a = a} w) o i n at e start b m d t f =
@@ -239,11 +239,11 @@ pub record ValidPairs (ps : Values) : Type 0 where
   pub most : count ps ≤ numberLimit
 
 mutual
-  valid-pairs : {v : Value} {j : ℕ} {a : TreePath} {qs : Values} → Locates v j a qs → Sound v → Limited v → ValidPairs qs
+  valid-pairs : {v : Value} {j : ℕ} {a : TreePath} {qs : Values} → WayTo v j a qs → Sound v → Limited v → ValidPairs qs
   valid-pairs (found h ps c) s l = record { sound = rw c at (s .1); limited = l .1; most = l .0 }
   valid-pairs (inside h w) s l = valid-pairs-in w (h .container) [] (s .1) (l .1)
 
-  valid-pairs-in : {ps : Values} {j q : ℕ} {a : TreePath} {qs : Values} → LocatesIn ps j q a qs → (c : Container) (earlier : List Key) → SoundIn c earlier ps
+  valid-pairs-in : {ps : Values} {j q : ℕ} {a : TreePath} {qs : Values} → WayIn ps j q a qs → (c : Container) (earlier : List Key) → SoundIn c earlier ps
       → LimitedIn ps → ValidPairs qs
   valid-pairs-in (first k ps w) c js s l = valid-pairs w (s .3) (l .0)
   valid-pairs-in (later k v e w) c js s l = valid-pairs-in w c (k ∷ js) (s .4) (l .1)
@@ -253,11 +253,11 @@ site-valid v node s f e = valid-pairs (locates v node s e) (f .sound) (f .limite
 
 -- ---- the array's nodes are the plan's
 mutual
-  nodes-inside : {v : Value} {j : ℕ} {a : TreePath} {qs : Values} → Locates v j a qs → j + suc (nodesIn qs) ≤ nodes v
+  nodes-inside : {v : Value} {j : ℕ} {a : TreePath} {qs : Values} → WayTo v j a qs → j + suc (nodesIn qs) ≤ nodes v
   nodes-inside (found h ps c) = omega arith
   nodes-inside (inside h w) = omega (arith, nodes-inside-in w)
 
-  nodes-inside-in : {ps : Values} {j q : ℕ} {a : TreePath} {qs : Values} → LocatesIn ps j q a qs → j + suc (nodesIn qs) ≤ nodesIn ps
+  nodes-inside-in : {ps : Values} {j q : ℕ} {a : TreePath} {qs : Values} → WayIn ps j q a qs → j + suc (nodesIn qs) ≤ nodesIn ps
   nodes-inside-in (first k ps w) = omega (arith, nodes-inside w)
   nodes-inside-in (later k v e w) = omega (arith, nodes-inside-in w)
 
@@ -266,11 +266,11 @@ site-inside v node s e = nodes-inside (locates v node s e)
 
 -- ---- and it stands no deeper than the plan may
 mutual
-  depth-most : {v : Value} {j : ℕ} {a : TreePath} {qs : Values} → Locates v j a qs → (d : ℕ) → Shallow d v → suc (length a) ≤ d
+  depth-most : {v : Value} {j : ℕ} {a : TreePath} {qs : Values} → WayTo v j a qs → (d : ℕ) → Shallow d v → suc (length a) ≤ d
   depth-most (found h ps c) d s = s .0
   depth-most (inside h w) d s = omega (arith, depth-most-in w (d - 1) (s .1))
 
-  depth-most-in : {ps : Values} {j q : ℕ} {a : TreePath} {qs : Values} → LocatesIn ps j q a qs → (d : ℕ) → ShallowIn d ps → suc (length a) ≤ d
+  depth-most-in : {ps : Values} {j q : ℕ} {a : TreePath} {qs : Values} → WayIn ps j q a qs → (d : ℕ) → ShallowIn d ps → suc (length a) ≤ d
   depth-most-in (first k ps w) d s = depth-most w d (s .0)
   depth-most-in (later k v e w) d s = depth-most-in w d (s .1)
 

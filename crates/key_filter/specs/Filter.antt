@@ -34,7 +34,7 @@ unfoldable pub marked : List ℕ → ℕ → Bool
 marked m h = elim (eqb (length m) 0) [ true ↦ true | false ↦ covers (getD m (first (length m) h) 0) (getD m (second (length m) h) 0) (maskOf h) ]
 
 -- two words get the bits of a mask
-unfoldable pub withMask : List ℕ → (one two mask : ℕ) → List ℕ
+unfoldable pub withMask : List ℕ → (i j mask : ℕ) → List ℕ
 withMask m i j q = set (set m i (bitOr (getD m i 0) q)) j (bitOr (getD m j 0) q)
 
 unfoldable pub mark : List ℕ → ℕ → List ℕ

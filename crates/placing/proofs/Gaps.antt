@@ -15,7 +15,7 @@ use Rattle.format.specs.Answer.{ok, refused}
 use Rattle.format.specs.Canonical.{shortest}
 use Rattle.format.specs.Edit.{putPair, atPath, countShortest, newOrdinal, insert}
 use Rattle.format.specs.Writing.{Site, arrayAt}
-use Rattle.insertion.proofs.Located.{locates}
+use Rattle.insertion.proofs.Ways.{locates}
 use Rattle.insertion.proofs.SiteRows.{site-valid}
 use Rattle.scanner.specs.declared.Text.{Text}
 use Rattle.scanner.specs.Scans.{Found}

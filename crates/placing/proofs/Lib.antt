@@ -4,8 +4,8 @@ mod TextLaws
 pub mod PairParts
 pub mod Sites
 mod SiteWords
-mod Placings
+mod StepLaws
 mod InsertedTexts
 pub mod Gaps
-mod Placements
+mod SpotLaws
 mod Locating

@@ -18,7 +18,7 @@ use Rattle.reader.specs.Promise.{Reads}
 use Rattle.reader.proofs.Promised.{accepted, refusal}
 use Rattle.rewriting.specs.declared.inserted.Spot.{Spot}
 use Rattle.placing.specs.declared.Placing.{Placing}
-use Rattle.placing.specs.Placing.{Given, Placed, placingOf}
+use Rattle.placing.specs.Placing.{Given, FindsSpot, placingOf}
 use Rattle.placing.specs.Locating.{Locates}
 
 module _ {s t t′ : List ℕ} {reading : Reading} (r : Reads s t t′ reading) where
@@ -60,14 +60,14 @@ module _ {s t t′ : List ℕ} {reading : Reading} (r : Reads s t t′ reading) 
           → insertBytes (capacityOf t) room s node place key value ≡ bytes
       as-given room f = ap (λ (c : ℕ). insertBytes c room s node place key value) (sym same-capacity) ∙ f
 
-      module _ {placing : Placing} (p : Placed s t′ node place key value placing) where
+      module _ {placing : Placing} (p : FindsSpot s t′ node place key value placing) where
         pub locates-refused : {code at : ℕ} {t″ : List ℕ} → placing ≡ Placing.Refused code at → t″ ≡ cleared t′ → Locates s node place key value t t″ placing
         locates-refused {t″ = t″} f z =
-            let q = subst (Placed s t′ node place key value) f p in
+            let q = subst (FindsSpot s t′ node place key value) f p in
             subst (Locates s node place key value t t″) (sym f) (z ∙ ap (λ (n : ℕ). replicate n 0) same-length, λ room. as-given room (q room))
 
         pub locates-at : {spot : Spot} → placing ≡ Placing.At spot → Locates s node place key value t t′ placing
         locates-at f =
-            let q = subst (Placed s t′ node place key value) f p in
+            let q = subst (FindsSpot s t′ node place key value) f p in
             subst (Locates s node place key value t t′) (sym f)
             (record { table = r .table; stands = q .stands; parted = q .parted; short = short; bytes = λ room. as-given room (q .bytes room) })

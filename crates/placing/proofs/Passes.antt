@@ -75,7 +75,7 @@ module _ (b left o c : ℕ) where
 
 -- ---- what is left
 
-record Left (s rest : List ℕ) (nodes around at passed o c : ℕ) : Type 0 where
+record NodesLeft (s rest : List ℕ) (nodes around at passed o c : ℕ) : Type 0 where
   tokens : List Token
   fit : AllFit tokens
   text : drop at s ≡ writeTokens tokens rest
@@ -88,7 +88,7 @@ pub record Passing (s : List ℕ) (from nodes at passed o c : ℕ) : Type 0 wher
   pub fewer : passed ≤ at
   pub fewer-opened : o ≤ at
   pub fewer-closed : c ≤ at
-  left : (a : Ahead s from nodes) → Left s (a .rest) nodes (a .around) at passed o c
+  left : (a : Ahead s from nodes) → NodesLeft s (a .rest) nodes (a .around) at passed o c
 
 pub passing-none : (s : List ℕ) (from nodes : ℕ) → Ahead s from nodes → Passing s from nodes from 0 0 0
 passing-none s from nodes a = record {

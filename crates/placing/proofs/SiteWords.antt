@@ -24,7 +24,7 @@ use Rattle.format.proofs.Places.{PairsInTable, first-in, others-in, others-text
 use Rattle.format.proofs.Tables.{end-is}
 use Rattle.format.proofs.Ordinals.{tableIn-ordinals}
 use Rattle.format.proofs.Results.{tableOf-length, flat-length}
-use Rattle.insertion.proofs.Located.{Locates, found, inside, LocatesIn, first, later, locates}
+use Rattle.insertion.proofs.Ways.{WayTo, found, inside, WayIn, first, later, locates}
 use Rattle.insertion.proofs.SiteRows.{in-plan, site-valid, site-inside}
 use Rattle.keys.specs.KeyWords.{keyWordsAt, keyWordsIn, Held}
 use Rattle.keys.proofs.NodeKeys.{key-there}
@@ -65,11 +65,11 @@ mutual
   ordinalsIn-most (pair k v ps) = omega (arith, ordinals-most v, ordinalsIn-most ps)
 
 mutual
-  before-most : {v : Value} {j : ℕ} {a : TreePath} {qs : Values} → Locates v j a qs → ordinalsBefore own a 0 v ≤ suc j
+  before-most : {v : Value} {j : ℕ} {a : TreePath} {qs : Values} → WayTo v j a qs → ordinalsBefore own a 0 v ≤ suc j
   before-most (found h ps c) = omega arith
   before-most (inside h w) = omega (arith, within-most w)
 
-  within-most : {ps : Values} {j q : ℕ} {a : TreePath} {qs : Values} → LocatesIn ps j q a qs → ordinalsWithin own q (ordinalsBefore own a 0) ps ≤ suc j
+  within-most : {ps : Values} {j q : ℕ} {a : TreePath} {qs : Values} → WayIn ps j q a qs → ordinalsWithin own q (ordinalsBefore own a 0) ps ≤ suc j
   within-most (first k ps w) = omega (arith, before-most w)
   within-most (later k v e w) = omega (arith, ordinals-most v, within-most w)
 

@@ -8,7 +8,7 @@ use Rattle.format.specs.Tree.{leaf, ref, branch, none, pair, TreePath, count, n
 use Rattle.format.specs.Syntax.{array, Key, Scalar, Head, Value, Values}
 use Rattle.format.specs.Edit.{putPair, atPlace, atPath, raised, renumbered}
 use Rattle.format.proofs.Maps.{count-map}
-use Rattle.insertion.proofs.Located.{Locates, found, inside, LocatesIn, first, later}
+use Rattle.insertion.proofs.Ways.{WayTo, found, inside, WayIn, first, later}
 use Rattle.tokens.specs.Tokens.{Token, scalar, opening, closing, keyScalar, tokens, tokensIn, raisedToken, nodesOf, opened, closed}
 use Rattle.placing.proofs.PairParts.{upto, after}
 
@@ -76,7 +76,7 @@ before xs front h ps back ys =
     ∙ sym (append-assoc xs front (opening h (count ps) ∷ tokensIn ps ++ (closing ∷ back ++ ys)))
 
 mutual
-  pub site-tokens : {v : Value} {i : ℕ} {a : TreePath} {qs : Values} → Locates v i a qs → SiteTokens (tokens v) (λ g f. tokens (atPath g f a v)) i a qs
+  pub site-tokens : {v : Value} {i : ℕ} {a : TreePath} {qs : Values} → WayTo v i a qs → SiteTokens (tokens v) (λ g f. tokens (atPath g f a v)) i a qs
   site-tokens (found h ps c) = record { front = []; head = h; back = []; is-array = c; split = refl; edits = λ g f. refl; nodes = refl; level = refl }
   site-tokens (inside h {ps} {qs} {q = q} {a = a} w) =
       let s = site-tokens-in w in
@@ -95,7 +95,7 @@ mutual
         level = omega (arith, s .level);
       }
 
-  site-tokens-in : {ps : Values} {i q : ℕ} {a : TreePath} {qs : Values} → LocatesIn ps i q a qs
+  site-tokens-in : {ps : Values} {i q : ℕ} {a : TreePath} {qs : Values} → WayIn ps i q a qs
       → SiteTokens (tokensIn ps) (λ g f. tokensIn (atPlace q (atPath g f a) ps)) i a qs
   site-tokens-in (first k {v} ps {qs} w) =
       let s = site-tokens w in

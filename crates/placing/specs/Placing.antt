@@ -59,14 +59,14 @@ pub record SpotIs (s head rest : List ℕ) (at count ordinal : ℕ) (r : Spot) :
 
 -- ---- the steps between reading and writing
 
-pub record Placement (s t : List ℕ) (node place : ℕ) (key value : List ℕ) (p : Spot) : Type 0 where
+pub record SpotFound (s t : List ℕ) (node place : ℕ) (key value : List ℕ) (p : Spot) : Type 0 where
   pub stands : stands (length s) p ≡ true
   pub parted : Parted s p
   pub bytes : (room : ℕ) → insertBytes (capacityOf t) room s node place key value ≡ withRoom room (insertedText s key value p)
 
-abbrev pub Placed : (s t : List ℕ) (node place : ℕ) (key value : List ℕ) → Placing → Type 0
-Placed s t node place key value (Placing.At p) = Placement s t node place key value p
-Placed s t node place key value (Placing.Refused code at) = (room : ℕ) → insertBytes (capacityOf t) room s node place key value ≡ refused code at
+abbrev pub FindsSpot : (s t : List ℕ) (node place : ℕ) (key value : List ℕ) → Placing → Type 0
+FindsSpot s t node place key value (Placing.At p) = SpotFound s t node place key value p
+FindsSpot s t node place key value (Placing.Refused code at) = (room : ℕ) → insertBytes (capacityOf t) room s node place key value ≡ refused code at
 
 -- ---- reading's refusal, as it stands
 

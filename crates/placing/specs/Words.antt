@@ -10,8 +10,8 @@ use Rattle.format.specs.Tree.{one}
 use Rattle.format.specs.Table.{width, wordAt}
 use Rattle.keys.specs.KeyWords.{keyWordsIn, sameWords}
 use Rattle.keys.specs.declared.KeyWords.{KeyWords}
-use Rattle.placing.specs.declared.site.Site.{Site}
-use Rattle.placing.specs.declared.site.Gap.{Gap}
+use Rattle.placing.specs.declared.target.Target.{Target}
+use Rattle.placing.specs.declared.target.Gap.{Gap}
 
 -- ---- 11
 
@@ -21,9 +21,9 @@ pub record ArrayIs (t : List ℕ) (nodes node count ordinal : ℕ) : Type 0 wher
   pub counted : count ≡ wordAt t node 4
   pub numbered : ordinal ≡ wordAt t node 1
 
-abbrev pub SiteIs : List ℕ → (nodes node : ℕ) → Site → Type 0
-SiteIs t n i (Site.Array count ordinal) = ArrayIs t n i count ordinal
-SiteIs t n i Site.Other = i < n → wordAt t i 0 ≡ tag Kind.array → ⊥
+abbrev pub TargetIs : List ℕ → (nodes node : ℕ) → Target → Type 0
+TargetIs t n i (Target.Array count ordinal) = ArrayIs t n i count ordinal
+TargetIs t n i Target.Other = i < n → wordAt t i 0 ≡ tag Kind.array → ⊥
 
 -- ---- 12
 

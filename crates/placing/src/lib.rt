@@ -2,7 +2,7 @@
 // steps before writing in the paper's order. Gives the spot, the table being that of the plan given; or refuses as inserting does whatever room the output
 // has: 1 to 10 with reading's position, or 11, 12, 13, 9, 8 or 7 at 0, every word of the table zero. The editor calls `locate`.
 // Facts come from the table (the array's count, ordinal and keys, and where its pairs begin), positions from the bytes: no tag's position stands in the table.
-use crate::place::place;
+use crate::spot::find_spot;
 use reader::Reading;
 use rewriting::inserted::Spot;
 ghost use mathlib.Core.Path.{_≡_};
@@ -10,9 +10,9 @@ ghost use Rattle.placing.specs.Locating.{Locates};
 ghost use Rattle.placing.specs.Placing.{placingOf};
 
 mod pass;
-mod place;
-mod site;
+mod spot;
 mod steps;
+mod target;
 mod texts;
 
 // Where the pair goes, or a refusal's number and position.
@@ -50,7 +50,7 @@ pub fn locate(
     let Reading::Accepted { nodes, ordinals: _ } = reading else {
         return as_placing(reading);
     };
-    let placing = place(source, table, nodes, array_node, pair_index, key, value);
+    let placing = find_spot(source, table, nodes, array_node, pair_index, key, value);
     let Placing::At(_) = placing else {
         tables::clear(table);
         return placing;

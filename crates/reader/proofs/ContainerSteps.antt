@@ -25,8 +25,8 @@ use Rattle.scanner.proofs.Numbers.{unfit-of}
 use Rattle.reader.specs.declared.cursor.Cursor.{Cursor}
 use Rattle.reader.specs.declared.cursor.Step.{Step}
 use Rattle.reader.specs.Texts.{isArrayTag, containerTag}
-use Rattle.reader.specs.Nodes.{nodeOf, Entered}
-use Rattle.reader.specs.Steps.{Points, Takes, TakesIn, Fit, Kept, GoodValue, GoodPairs, Meets, innerAt, bodyAt, pairsAt, refusalOf}
+use Rattle.reader.specs.Nodes.{nodeOf, NodeOpened}
+use Rattle.reader.specs.Steps.{Points, Takes, TakesIn, Fit, KeptBelow, GoodValue, GoodPairs, Meets, innerAt, bodyAt, pairsAt, refusalOf}
 use Rattle.reader.proofs.Bodies.{pairsOf, body-head, head-array, head-node}
 use Rattle.reader.proofs.HeadTexts.{head-written}
 use Rattle.reader.proofs.Stored.{node-around, run-kept, run-word, points-keep, points-kept, points-step}
@@ -86,8 +86,8 @@ module _ (s : List ℕ) (capacity : ℕ) (c : Cursor) (b : ℕ) (is : containerT
         ∙ ap (λ (n : ℕ). readPairs (setting capacity s) inner (isArrayTag b) n [] (suc (c .ordinal)) (suc (c .node)) (drop (x .next) s)) count-is
         ∙ ap₂ (λ (n i : ℕ). readPairs (setting capacity s) inner (isArrayTag b) (x .link) [] n i (drop (x .next) s)) (sym (add-one (c .ordinal))) (sym (add-one (c .node)))
 
-    entered : given ≡ (pairs >>= shut)
-    entered = opened ∙ rw (f .is (c .at)) (ap (λ (o : Answer (Values × List ℕ)). o >>= shut) same-pairs)
+    opened-pairs : given ≡ (pairs >>= shut)
+    opened-pairs = opened ∙ rw (f .is (c .at)) (ap (λ (o : Answer (Values × List ℕ)). o >>= shut) same-pairs)
 
     -- the code's cursor is that one
     at-first : (inside : Cursor) → inside ≡ within c (x .next) → pairs ≡ pairsAt s capacity b (x .link) inside
@@ -98,15 +98,15 @@ module _ (s : List ℕ) (capacity : ℕ) (c : Cursor) (b : ℕ) (is : containerT
     pairs-refused inside i code at e = closed-by (at-first inside i ∙ e)
       where
         closed-by : pairs ≡ refused code at → given ≡ refused code at
-        closed-by e = entered ∙ ap (λ (o : Answer (Values × List ℕ)). o >>= shut) e
+        closed-by e = opened-pairs ∙ ap (λ (o : Answer (Values × List ℕ)). o >>= shut) e
 
-    module _ (t t₁ t₂ t₃ : List ℕ) (fit : Fit s t capacity c) (room : c .node < capacity) (last : Cursor) (inside : Cursor) (first : Entered t t₁ c b x inside)
+    module _ (t t₁ t₂ t₃ : List ℕ) (fit : Fit s t capacity c) (room : c .node < capacity) (last : Cursor) (inside : Cursor) (first : NodeOpened t t₁ c b x inside)
         (read : GoodPairs s t₁ t₂ capacity inside (pairsAt s capacity b (x .link) inside) last) where
       g : GoodPairs s t₁ t₂ capacity (within c (x .next)) pairs last
       g = subst (λ (i : Cursor). GoodPairs s t₁ t₂ capacity i (pairsAt s capacity b (x .link) i) last) (first .cursor) read
 
       pub brace-missing : eqb (byteAt s (last .at)) (byte "}") ≡ false → given ≡ refused 2 (c .at)
-      brace-missing e = entered ∙ ap (λ (o : Answer (Values × List ℕ)). o >>= shut) (g .is) ∙ rw (expect-no (c .at) s (last .at) (byte "}") [] e)
+      brace-missing e = opened-pairs ∙ ap (λ (o : Answer (Values × List ℕ)). o >>= shut) (g .is) ∙ rw (expect-no (c .at) s (last .at) (byte "}") [] e)
 
       module _ (e : eqb (byteAt s (last .at)) (byte "}") ≡ true) (l₂ : length t₂ ≡ length t₁) (e₃ : t₃ ≡ sets t₂ (c .node * width + 5) (last .node ∷ [])) where
         e₁ : t₁ ≡ sets t (c .node * width) (words (nodeOf b (c .ordinal + 1) 0 x))
@@ -121,7 +121,7 @@ module _ (s : List ℕ) (capacity : ℕ) (c : Cursor) (b : ℕ) (is : containerT
         abbrev front : List ℕ
         front = b ∷ (c .ordinal + 1) ∷ x .content ∷ x .size ∷ x .link ∷ []
 
-        keeps : Kept t t₃ (c .node)
+        keeps : KeptBelow t t₃ (c .node)
         keeps i l =
             ap (λ (u : List ℕ). getD u i 0) e₃ ∙ getD-set-other t₂ (c .node * width + 5) i (last .node) 0 (λ q. omega arith)
             ∙ g .kept i (omega arith) ∙ run-kept t t₁ (words (nodeOf b (c .ordinal + 1) 0 x)) (c .node) e₁ i l
@@ -185,7 +185,7 @@ module _ (s : List ℕ) (capacity : ℕ) (c : Cursor) (b : ℕ) (is : containerT
             let there : last .at < length s = byte-there s (last .at) (byte "}") (lit< tt) e in
             record {
               value = value;
-              is = entered ∙ ap (λ (o : Answer (Values × List ℕ)). o >>= shut) (g .is) ∙ rw (expect-yes (c .at) s (last .at) (byte "}") [] (lit< tt) e);
+              is = opened-pairs ∙ ap (λ (o : Answer (Values × List ℕ)). o >>= shut) (g .is) ∙ rw (expect-yes (c .at) s (last .at) (byte "}") [] (lit< tt) e);
               on = omega (arith, f .on, g .on);
               inside = omega arith;
               node = omega (arith, g .node);

@@ -65,15 +65,15 @@ record Rest (s t : List ℕ) (i n : ℕ) (k : Key) (all : List Key) : Type 0 whe
   chain : Chain s t i n keys
   same : hasKey k all ≡ hasKey k keys
 
-pub record Left (s t : List ℕ) (first n : ℕ) (w : KeyWords) (i : ℕ) : Type 0 where
+pub record KeysLeft (s t : List ℕ) (first n : ℕ) (w : KeyWords) (i : ℕ) : Type 0 where
   pub walk : Walk s t i n
   left : (k : Key) (ks : List Key) → Held s k w → Chain s t first n ks → Rest s t i n k ks
 
 module _ {s t : List ℕ} {first n : ℕ} {w : KeyWords} where
-  pub left-none : Walk s t first n → Left s t first n w first
+  pub left-none : Walk s t first n → KeysLeft s t first n w first
   left-none a = record { walk = a; left = λ k ks h c. record { keys = ks; chain = c; same = refl } }
 
-  module _ {i : ℕ} (l : Left s t first n w i) (lt : i < n) where
+  module _ {i : ℕ} (l : KeysLeft s t first n w i) (lt : i < n) where
     module _ (r : Bool) (e : r ≡ sameWords s w s (keyWordsAt t i)) where
       decided : (j k : Key) → Held s j (keyWordsAt t i) → Held s k w → r ≡ sameKey k j
       decided j k h g = e ∙ words-same s w s (keyWordsAt t i) k j g h
@@ -84,7 +84,7 @@ module _ {s t : List ℕ} {first n : ℕ} {w : KeyWords} where
           let p = stepped (x .chain) lt in
           sym (x .same ∙ ap (hasKey k) (p .is) ∙ ap (λ (b : Bool). b || hasKey k (p .rest)) (sym (decided (p .key) k (p .held) h) ∙ q))
 
-      pub left-more : r ≡ false → Left s t first n w (wordAt t i (width + 5))
+      pub left-more : r ≡ false → KeysLeft s t first n w (wordAt t i (width + 5))
       left-more q =
           record {
             walk = (let p = stepped (l .walk .chain) lt in record { keys = p .rest; chain = p .chain });
@@ -98,7 +98,7 @@ module _ {s t : List ℕ} {first n : ℕ} {w : KeyWords} where
                 };
           }
 
-  pub left-end : {i : ℕ} → Left s t first n w i → n ≤ i → (k : Key) (ks : List Key) → Held s k w → Chain s t first n ks → false ≡ hasKey k ks
+  pub left-end : {i : ℕ} → KeysLeft s t first n w i → n ≤ i → (k : Key) (ks : List Key) → Held s k w → Chain s t first n ks → false ≡ hasKey k ks
   left-end {i} l h k ks g c = let x = l .left k ks g c in sym (x .same ∙ chain-end k (x .chain) h)
 
 -- ---- marking them

@@ -30,7 +30,7 @@ use Rattle.reader.specs.declared.cursor.Step.{Step}
 use Rattle.keys.specs.declared.KeyWords.{KeyWords}
 use Rattle.keys.specs.KeyWords.{keyWordsAt, keyKind, Says, Held}
 use Rattle.reader.specs.Texts.{kindFor, isArrayTag, keyTold}
-use Rattle.reader.specs.Nodes.{nodeOf, Placed}
+use Rattle.reader.specs.Nodes.{nodeOf, NodeAdded}
 use Rattle.key_filter.specs.Filter.{Grows}
 use Rattle.reader.specs.declared.seen.Seen.{Seen}
 use Rattle.reader.specs.KeysSeen.{Known, next, Tested}
@@ -93,11 +93,11 @@ module _ (s : List ℕ) (at b : ℕ) (may : mayBeKey b ≡ true) (here : at < le
         fits = keyText-ok (kindFor b) 0 (drop (at + 1) s) (f .what, drop (x .next) s) which (f .is 0) .fits;
       }
 
--- ---- the words of a key that is placed
+-- ---- the words of a key that is added
 
-placed-words : (t t′ : List ℕ) (c c′ : Cursor) (b : ℕ) (x : Text) → c .node * width + width ≤ length t → Placed t t′ c b x false c′
+added-words : (t t′ : List ℕ) (c c′ : Cursor) (b : ℕ) (x : Text) → c .node * width + width ≤ length t → NodeAdded t t′ c b x false c′
     → keyWordsAt t′ (c .node) ≡ record { tag = b; content = x .content; size = x .size }
-placed-words t t′ c c′ b x room p =
+added-words t t′ c c′ b x room p =
     of-words (wordAt t′ (c .node) 0) b (wordAt t′ (c .node) 2) (x .content) (wordAt t′ (c .node) 3) (x .size) (word-is 0 (lit< tt)) (word-is 2 (lit< tt)) (word-is 3 (lit< tt))
   where
     ws : List ℕ
@@ -117,7 +117,7 @@ pub none-more : (s t t′ m m′ : List ℕ) (first node : ℕ) (seen : Seen) (r
 none-more s t t′ m m′ first node seen r code at e g = record { grows = g; known = λ c′ q. absurd (let z : _≡_ {A = ℕ} 0 1 = cc in omega arith) }
 
 pub one-more : (s t t′ m m′ : List ℕ) (first capacity : ℕ) (seen : Seen) (c c′ : Cursor) (b : ℕ) (x : Text) (r : Step) (found : Bool) → Fit s t capacity c
-    → c .node < capacity → Tested s t m m′ first (c .node) (record { tag = b; content = x .content; size = x .size }) seen found → Placed t t′ c b x false c′
+    → c .node < capacity → Tested s t m m′ first (c .node) (record { tag = b; content = x .content; size = x .size }) seen found → NodeAdded t t′ c b x false c′
     → Remembers s t t′ m m′ first (c .node) seen r
 one-more s t t′ m m′ first capacity seen c c′ b x r found fit room d p =
     record {
@@ -127,7 +127,7 @@ one-more s t t′ m m′ first capacity seen c c′ b x r found fit room d p =
     }
   where
     same : keyWordsAt t′ (c .node) ≡ record { tag = b; content = x .content; size = x .size }
-    same = placed-words t t′ c c′ b x (omega (arith, fit .table)) p
+    same = added-words t t′ c c′ b x (omega (arith, fit .table)) p
 
 -- ---- the steps
 
@@ -182,7 +182,7 @@ module _ (s : List ℕ) (capacity container : ℕ) (c : Cursor) (earlier : List 
           key-held : Held s (f .what) (record { tag = b; content = x .content; size = x .size })
           key-held = held-of s (c .at) b may h q x f
 
-          pub key-good : (t t′ : List ℕ) (c′ : Cursor) → Fit s t capacity c → hasKey (f .what) earlier ≡ false → Placed t t′ c b x false c′
+          pub key-good : (t t′ : List ℕ) (c′ : Cursor) → Fit s t capacity c → hasKey (f .what) earlier ≡ false → NodeAdded t t′ c b x false c′
               → GoodKey s t t′ capacity c given c′
           key-good t t′ c′ fit g p =
               subst (GoodKey s t t′ capacity c given) (sym (p .cursor)) (record {
@@ -196,5 +196,5 @@ module _ (s : List ℕ) (capacity container : ℕ) (c : Cursor) (earlier : List 
                 levels = refl;
                 table = p .table ∙ ap (λ (n : ℕ). sets t (c .node * width) (words (nodeOf b 0 n x))) (add-one (c .node))
                     ∙ ap (λ (n : Node). sets t (c .node * width) (words n)) (sym (key-node s (c .at) b may h q x f (c .node)));
-                held = subst (Held s (f .what)) (sym (placed-words t t′ c c′ b x (omega arith) p)) key-held;
+                held = subst (Held s (f .what)) (sym (added-words t t′ c c′ b x (omega arith) p)) key-held;
               })

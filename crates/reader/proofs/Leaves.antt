@@ -23,11 +23,11 @@ use Rattle.scanner.proofs.Numbers.{unfit-of}
 use Rattle.reader.specs.declared.cursor.Cursor.{Cursor}
 use Rattle.reader.specs.declared.cursor.Step.{Step}
 use Rattle.reader.specs.Texts.{kindFor, scalarTag, referenceTag}
-use Rattle.reader.specs.Nodes.{nodeOf, Placed, CarrierIn}
-use Rattle.reader.specs.Steps.{Points, Takes, Fit, Kept, GoodValue, Meets, IsOpen, valueAt, bodyAt, innerAt, refusalOf}
+use Rattle.reader.specs.Nodes.{nodeOf, NodeAdded, CarrierIn}
+use Rattle.reader.specs.Steps.{Points, Takes, Fit, KeptBelow, GoodValue, Meets, IsOpen, valueAt, bodyAt, innerAt, refusalOf}
 use Rattle.reader.proofs.Tagged.{position-is, tag-end, tag-other, tag-is}
 use Rattle.reader.proofs.Bodies.{body-scalar, scalar-node, refFor, resolved, body-reference, ref-tag}
-use Rattle.reader.proofs.Stored.{run-kept, run-word, points-kept, points-place, link-is}
+use Rattle.reader.proofs.Stored.{run-kept, run-word, points-kept, points-add, link-is}
 
 -- ---- the checks at a tag
 
@@ -88,7 +88,7 @@ module _ (s : List ℕ) (capacity : ℕ) (c : Cursor) where
 
 -- ---- a value that holds none
 
-module _ (s t t′ : List ℕ) (capacity : ℕ) (c c′ : Cursor) (b : ℕ) (x : Text) (takes : Bool) (fit : Fit s t capacity c) (room : c .node < capacity) (p : Placed t t′ c b x takes c′) where
+module _ (s t t′ : List ℕ) (capacity : ℕ) (c c′ : Cursor) (b : ℕ) (x : Text) (takes : Bool) (fit : Fit s t capacity c) (room : c .node < capacity) (p : NodeAdded t t′ c b x takes c′) where
   abbrev row : Node
   row = nodeOf b (taken takes (c .ordinal + 1)) (c .node + 1) x
 
@@ -115,12 +115,12 @@ module _ (s t t′ : List ℕ) (capacity : ℕ) (c c′ : Cursor) (b : ℕ) (x :
         wrote = record {
           of = λ to q r. (
             p .table ∙ ap (λ (n : Node). sets t (c .node * width) (flat (n ∷ []))) same ∙ ap (λ (ns : List Node). sets t (c .node * width) (flat ns)) (sym (rows to q)),
-            points-place to t′ (c .node) (c .ordinal) (points-kept to t t′ (c .node) (c .ordinal) q kept) takes (run-word t t′ (words row) (c .node) 1 (p .table) (lit< tt) long) (takes-own to r),
+            points-add to t′ (c .node) (c .ordinal) (points-kept to t t′ (c .node) (c .ordinal) q kept) takes (run-word t t′ (words row) (c .node) 1 (p .table) (lit< tt) long) (takes-own to r),
           );
         };
       })
     where
-      kept : Kept t t′ (c .node)
+      kept : KeptBelow t t′ (c .node)
       kept = run-kept t t′ (words row) (c .node) (p .table)
 
       same : row ≡ nodeOf b (taken takes (suc (c .ordinal))) (suc (c .node)) x
@@ -162,7 +162,7 @@ module _ (s : List ℕ) (capacity : ℕ) (c : Cursor) (b : ℕ) (is : scalarTag 
   scalar-not t t′ scan code r h e q =
       meets-bad s t t′ capacity c (bodyAt s capacity inner b c) r code (c .at) (refused-is scan code (c .at) r q e) (opened ∙ rw (unfit-of h e (c .at)))
 
-  pub scalar-good : (t t′ : List ℕ) (x : Text) (c′ : Cursor) → Fit s t capacity c → c .node < capacity → Found (scalarText (kindFor b)) (scalarTold (c .at + 1)) s (c .at + 1) x → Placed t t′ c b x true c′
+  pub scalar-good : (t t′ : List ℕ) (x : Text) (c′ : Cursor) → Fit s t capacity c → c .node < capacity → Found (scalarText (kindFor b)) (scalarTold (c .at + 1)) s (c .at + 1) x → NodeAdded t t′ c b x true c′
       → GoodValue s t t′ capacity c (bodyAt s capacity inner b c) c′
   scalar-good t t′ x c′ fit room f p =
       leaf-good s t t′ capacity c c′ b x true fit room p (bodyAt s capacity inner b c) (leaf (f .what)) (opened ∙ rw (f .is (c .at))) (omega (arith, f .on)) (f .inside) refl refl
@@ -209,7 +209,7 @@ module _ (s : List ℕ) (capacity : ℕ) (c : Cursor) (b : ℕ) (is : referenceT
             earlier n = require (ltb 0 n && leb n (c .ordinal)) 6 (c .at) >>= λ u. ok (ref reference, drop (x .next) s)
 
         pub reference-good : (t t′ : List ℕ) (target next : ℕ) (c′ : Cursor) (takes : Bool) → Fit s t capacity c → c .node < capacity → next ≡ x .next → takes ≡ hasOrdinal b → CarrierIn t 0 (c .node) (x .content) target
-            → Placed t t′ c b (record { content = x .content; size = 0; link = target; next = next }) takes c′ → GoodValue s t t′ capacity c (bodyAt s capacity inner b c) c′
+            → NodeAdded t t′ c b (record { content = x .content; size = 0; link = target; next = next }) takes c′ → GoodValue s t t′ capacity c (bodyAt s capacity inner b c) c′
         reference-good t t′ target next c′ takes fit room n e found p =
             leaf-good s t t′ capacity c c′ b (record { content = x .content; size = 0; link = target; next = next }) takes fit room p (bodyAt s capacity inner b c) (ref reference)
             (accepted ∙ ap (λ (k : ℕ). ok (ref reference, drop k s)) (sym n)) (omega (arith, f .on)) (omega (arith, f .inside)) refl (ap one own-is)

@@ -10,5 +10,5 @@ mod HeadTexts
 mod ContainerSteps
 mod WholeSteps
 mod ScalarTexts
-mod Placing
+mod AddedNodes
 pub mod Promised

@@ -28,7 +28,7 @@ use Rattle.keys.specs.declared.KeyWords.{KeyWords}
 use Rattle.keys.specs.KeyWords.{keyWordsAt, keyWordsIn, Held}
 use Rattle.reader.specs.Texts.{isArrayTag}
 use Rattle.reader.specs.KeysSeen.{Chain, none, pair, Walk, Known, next}
-use Rattle.reader.specs.Steps.{Points, Takes, TakesIn, Fit, Kept, WroteIn, GoodValue, GoodPairs, GoodKey, MeetsPairs, Earlier, Remembers, innerAt, valueAt, pairsAt, keyAt}
+use Rattle.reader.specs.Steps.{Points, Takes, TakesIn, Fit, KeptBelow, WroteIn, GoodValue, GoodPairs, GoodKey, MeetsPairs, Earlier, Remembers, innerAt, valueAt, pairsAt, keyAt}
 use Rattle.key_filter.proofs.Marking.{grows-none, grows-on}
 use Rattle.reader.proofs.KeyLaws.{chain-le, known-grows}
 use Rattle.reader.proofs.Snoc.{snoc, onto, onto-none, onto-done, onto-refused, onto-snoc, nodes-snoc, ordinals-snoc, key-adds, write-adds, length-snoc, ordinals-le, flat-append, table-snoc, takes-snoc}
@@ -51,7 +51,7 @@ held-kept : {s : List ℕ} (t t′ : List ℕ) (k : Key) (i : ℕ) → ((j : ℕ
     → Held s k (keyWordsAt t′ i)
 held-kept t t′ k i same h = rw (same 0 (lit< tt), same 2 (lit< tt), same 3 (lit< tt)) h
 
-chain-more : {s t : List ℕ} (t′ : List ℕ) {i n : ℕ} {ks : List Key} (k : Key) (m : ℕ) → Kept t t′ n → Held s k (keyWordsAt t′ n) → wordAt t′ n (width + 5) ≡ m
+chain-more : {s t : List ℕ} (t′ : List ℕ) {i n : ℕ} {ks : List Key} (k : Key) (m : ℕ) → KeptBelow t t′ n → Held s k (keyWordsAt t′ n) → wordAt t′ n (width + 5) ≡ m
     → n + 1 < m → Chain s t i n ks → Chain s t′ i m (ks ++ (k ∷ []))
 chain-more t′ k m same h e l none = pair h e l none
 chain-more {t = t} t′ k m same h e l (pair {i = i} {k = j} a b o c) =
@@ -74,7 +74,7 @@ pub record Run (s t₀ t m₀ m : List ℕ) (capacity container count : ℕ) (c�
   behind : c .at ≡ c₀ .at + length (writePairs pairs [])
   levels : c .levels ≡ c₀ .levels
   pub fit : Fit s t capacity c
-  kept : Kept t₀ t (c₀ .node)
+  kept : KeptBelow t₀ t (c₀ .node)
   wrote : WroteIn t₀ t c₀ c pairs
   pub long : length t ≡ length t₀
   pub grown : Grows m₀ m
@@ -202,14 +202,14 @@ module _ {s t₀ t m₀ m : List ℕ} {capacity container count : ℕ} {c₀ c :
         nodes-some (ref n) = omega arith
         nodes-some (branch h ps) = omega arith
 
-        same-below : Kept t t₂ (c .node)
+        same-below : KeptBelow t t₂ (c .node)
         same-below i h = g .kept i (omega (arith, k .node)) ∙ run-kept t t₁ (words (keyNode (c .at) (c .node) (k .key))) (c .node) (k .table) i h
 
         ends : wordAt t₂ (c .node) (width + 5) ≡ after .node
-        ends = ap (λ (i : ℕ). getD t₂ i 0) (place (k .node)) ∙ g .end
+        ends = ap (λ (i : ℕ). getD t₂ i 0) (behind (k .node)) ∙ g .end
           where
-            place : mid .node ≡ c .node + 1 → c .node * width + (width + 5) ≡ mid .node * width + 5
-            place e = omega arith
+            behind : mid .node ≡ c .node + 1 → c .node * width + (width + 5) ≡ mid .node * width + 5
+            behind e = omega arith
 
         listed : Earlier s t₂ m₂ (c₀ .node) (after .node) seen′ (k .key ∷ r .earlier)
         listed =

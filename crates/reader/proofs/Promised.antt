@@ -13,7 +13,7 @@ use Rattle.format.specs.Reading.{capacityOf, Counts, answer}
 use Rattle.format.proofs.Answers.{ok-same, not-both}
 use Rattle.format.proofs.Inversion.{read-ok}
 use Rattle.format.proofs.Results.{after-length}
-use Rattle.reader.specs.Promise.{answerOf, Reads}
+use Rattle.reader.specs.Promise.{readingAnswer, Reads}
 use Rattle.reader.specs.declared.Reading.{Reading}
 
 abbrev counts : Value → Answer Counts
@@ -30,7 +30,7 @@ took capacity source n (ok v) r e = record { value = v; read = r; counted = ok-s
 took capacity source n (refused code at) r e = absurd (not-both (sym e))
 
 pub accepted : {source before after : List ℕ} {nodes ordinals : ℕ} → Reads source before after (Reading.Accepted nodes ordinals) → Took (capacityOf before) source (record { nodes = nodes; ordinals = ordinals })
-unfolding answer answerOf
+unfolding answer readingAnswer
 accepted {source} {before} reads = took (capacityOf before) source _ (read (capacityOf before) source) refl (reads .answer)
 
 -- what an acceptance counts stands in the table: so many nodes
@@ -48,5 +48,5 @@ stopped (refused c p) code at e = same e
     same e = cc
 
 pub refusal : {source before after : List ℕ} {code at : ℕ} → Reads source before after (Reading.Refused code at) → read (capacityOf before) source ≡ refused code at
-unfolding answer answerOf
+unfolding answer readingAnswer
 refusal {source} {before} {after} {code} {at} reads = stopped (read (capacityOf before) source) code at (reads .answer)

@@ -13,7 +13,7 @@ use Rattle.decimal.proofs.Stores.{sets-append}
 use Rattle.format.specs.Tree.{one}
 use Rattle.format.specs.Table.{width, wordAt, taken}
 use Rattle.reader.specs.Nodes.{CarrierIn}
-use Rattle.reader.specs.Steps.{Points, Kept}
+use Rattle.reader.specs.Steps.{Points, KeptBelow}
 
 -- ---- runs of stores
 
@@ -49,7 +49,7 @@ sets-at (w ∷ ws) t k (suc j) h l =
     ap (λ (i : ℕ). getD (sets (set t k w) (suc k) ws) i 0) (add-suc k j ∙ sym (suc-add k j))
     ∙ sets-at ws (set t k w) (suc k) j (omega arith) (omega (arith, length-sets t k (w ∷ [])))
 
-pub run-kept : (t t′ ws : List ℕ) (node : ℕ) → t′ ≡ sets t (node * width) ws → Kept t t′ node
+pub run-kept : (t t′ ws : List ℕ) (node : ℕ) → t′ ≡ sets t (node * width) ws → KeptBelow t t′ node
 run-kept t t′ ws node e i h = ap (λ (u : List ℕ). getD u i 0) e ∙ sets-before ws t (node * width) i h
 
 pub run-word : (t t′ ws : List ℕ) (node j : ℕ) → t′ ≡ sets t (node * width) ws → j < length ws → node * width + length ws ≤ length t
@@ -71,7 +71,7 @@ points-keep to t t′ node ordinal p k =
     }
 
 -- the nodes before one are as they were
-pub points-kept : (to : ℕ → ℕ) (t t′ : List ℕ) (node ordinal : ℕ) → Points to t node ordinal → Kept t t′ node → Points to t′ node ordinal
+pub points-kept : (to : ℕ → ℕ) (t t′ : List ℕ) (node ordinal : ℕ) → Points to t node ordinal → KeptBelow t t′ node → Points to t′ node ordinal
 points-kept to t t′ node ordinal p k = points-keep to t t′ node ordinal p (λ i h. k (i * width + 1) (omega arith))
 
 module _ (to : ℕ → ℕ) (t : List ℕ) (node ordinal : ℕ) (p : Points to t node ordinal) where
@@ -127,9 +127,9 @@ module _ (to : ℕ → ℕ) (t : List ℕ) (node ordinal : ℕ) (p : Points to t
       go-only n i a h q (above l) = absurd (omega (arith, w, q, here i l h))
 
   -- either
-  pub points-place : (own : Bool) → wordAt t node 1 ≡ taken own (ordinal + 1) → (T own → to (suc ordinal) ≡ node) → Points to t (node + 1) (ordinal + one own)
-  points-place true w e = points-step w (e tt)
-  points-place false w e = subst (Points to t (node + 1)) (sym (add-zero ordinal)) (points-skip w)
+  pub points-add : (own : Bool) → wordAt t node 1 ≡ taken own (ordinal + 1) → (T own → to (suc ordinal) ≡ node) → Points to t (node + 1) (ordinal + one own)
+  points-add true w e = points-step w (e tt)
+  points-add false w e = subst (Points to t (node + 1)) (sym (add-zero ordinal)) (points-skip w)
 
   -- the node found for an ordinal is the one that took it
   pub link-is : (n r : ℕ) → CarrierIn t 0 node n r → 1 ≤ n → n ≤ ordinal → r ≡ to n

@@ -19,7 +19,7 @@ use Rattle.format.proofs.Results.{tableOf-length, flat-length, after-accepted, 
 use Rattle.reader.specs.declared.Reading.{Reading}
 use Rattle.reader.specs.declared.cursor.Cursor.{Cursor}
 use Rattle.reader.specs.declared.cursor.Step.{Step}
-use Rattle.reader.specs.Promise.{answerOf, Reads}
+use Rattle.reader.specs.Promise.{readingAnswer, Reads}
 use Rattle.reader.specs.Steps.{valueAt, GoodValue, GoodWhole, Whole}
 use Rattle.reader.proofs.Snoc.{takes-whole}
 use Rattle.reader.proofs.Stored.{points-none}
@@ -68,13 +68,13 @@ whole-refused s t t′ capacity r code at e h = subst (Whole s t t′ capacity) 
 
 module _ (s t t₁ t₂ : List ℕ) (r : Step) where
   pub reads-refused : (code at : ℕ) → Whole s t t₁ (length t / width) r → r ≡ Step.Refused code at → t₂ ≡ replicate (length t₁) 0 → length t₁ ≡ length t → Reads s t t₂ (Reading.Refused code at)
-  unfolding answerOf answer
+  unfolding readingAnswer answer
   reads-refused code at w e k l =
       let q : read (capacityOf t) s ≡ refused code at = subst (Whole s t t₁ (length t / width)) e w in
       record { answer = sym (rw q); table = k ∙ ap (λ (n : ℕ). replicate n 0) l ∙ sym (after-refused s t code at q) }
 
   pub reads-accepted : (c : Cursor) → Whole s t t₁ (length t / width) r → r ≡ Step.Done c → Reads s t t₁ (Reading.Accepted (c .node) (c .ordinal))
-  unfolding answerOf answer
+  unfolding readingAnswer answer
   reads-accepted c w e =
       let g : GoodWhole s t t₁ (length t / width) c = subst (Whole s t t₁ (length t / width)) e w in
       record {

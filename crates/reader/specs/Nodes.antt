@@ -14,12 +14,12 @@ abbrev pub nodeOf : (tag ordinal end : ℕ) → Text → Node
 nodeOf tag ordinal end x = record { tag = tag; ordinal = ordinal; content = x .content; size = x .size; link = x .link; end = end }
 
 -- a node that holds none is written, and the cursor stands behind it
-pub record Placed (t t′ : List ℕ) (c : Cursor) (tag : ℕ) (x : Text) (own : Bool) (r : Cursor) : Type 0 where
+pub record NodeAdded (t t′ : List ℕ) (c : Cursor) (tag : ℕ) (x : Text) (own : Bool) (r : Cursor) : Type 0 where
   pub table : t′ ≡ sets t (c .node * width) (words (nodeOf tag (taken own (c .ordinal + 1)) (c .node + 1) x))
   pub cursor : r ≡ record { at = x .next; node = c .node + 1; ordinal = c .ordinal + one own; levels = c .levels }
 
 -- a container's node is written but for its end, and the cursor stands at its first pair
-pub record Entered (t t′ : List ℕ) (c : Cursor) (tag : ℕ) (x : Text) (r : Cursor) : Type 0 where
+pub record NodeOpened (t t′ : List ℕ) (c : Cursor) (tag : ℕ) (x : Text) (r : Cursor) : Type 0 where
   pub table : t′ ≡ sets t (c .node * width) (words (nodeOf tag (c .ordinal + 1) 0 x))
   pub cursor : r ≡ record { at = x .next; node = c .node + 1; ordinal = c .ordinal + 1; levels = c .levels - 1 }
 

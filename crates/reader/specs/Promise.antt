@@ -8,11 +8,11 @@ use Rattle.reader.specs.declared.Reading.{Reading}
 
 -- the paper's number and values for each case of the enum:
 -- "Reading returns the count of nodes and of numbers taken." "A refusal returns its number and a position"
-unfoldable pub answerOf : Reading → Answer Counts
-answerOf (Reading.Accepted nodes ordinals) = ok (record { nodes = nodes; ordinals = ordinals })
-answerOf (Reading.Refused code at) = refused code at
+unfoldable pub readingAnswer : Reading → Answer Counts
+readingAnswer (Reading.Accepted nodes ordinals) = ok (record { nodes = nodes; ordinals = ordinals })
+readingAnswer (Reading.Refused code at) = refused code at
 
 -- demands 1 and 2 for reading: the answer, and every word of the table, for every source and every table
 pub record Reads (source before after : List ℕ) (r : Reading) : Type 0 where
-  pub answer : answerOf r ≡ answer (capacityOf before) source
+  pub answer : readingAnswer r ≡ answer (capacityOf before) source
   pub table : after ≡ tableAfter source before

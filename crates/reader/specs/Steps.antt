@@ -73,8 +73,8 @@ pub record Fit (s t : List ℕ) (capacity : ℕ) (c : Cursor) : Type 0 where
   pub ordinal : c .ordinal ≤ c .node
 
 -- the words before those of a node are as they were
-abbrev pub Kept : List ℕ → List ℕ → ℕ → Type 0
-Kept t t′ node = (i : ℕ) → i < node * width → getD t′ i 0 ≡ getD t i 0
+abbrev pub KeptBelow : List ℕ → List ℕ → ℕ → Type 0
+KeptBelow t t′ node = (i : ℕ) → i < node * width → getD t′ i 0 ≡ getD t i 0
 
 -- a value's words stand in the table, whichever nodes the ordinals before it belong to
 pub record Wrote (t t′ : List ℕ) (c c′ : Cursor) (v : Value) : Type 0 where
@@ -96,7 +96,7 @@ pub record GoodValue (s t t′ : List ℕ) (capacity : ℕ) (c : Cursor) (o : An
   pub ordinal : c′ .ordinal ≡ c .ordinal + ordinals own value
   pub levels : c′ .levels ≡ c .levels
   pub end : wordAt t′ (c .node) 5 ≡ c′ .node
-  pub kept : Kept t t′ (c .node)
+  pub kept : KeptBelow t t′ (c .node)
   pub wrote : Wrote t t′ c c′ value
 
 -- a refusal says nothing of the table: `read` clears it
@@ -114,7 +114,7 @@ pub record GoodPairs (s t t′ : List ℕ) (capacity : ℕ) (c : Cursor) (o : An
   pub fits : c′ .node ≤ capacity
   pub ordinal : c′ .ordinal ≡ c .ordinal + ordinalsIn own pairs
   pub levels : c′ .levels ≡ c .levels
-  pub kept : Kept t t′ (c .node)
+  pub kept : KeptBelow t t′ (c .node)
   pub wrote : WroteIn t t′ c c′ pairs
 
 abbrev pub MeetsPairs : (s t t′ : List ℕ) (capacity : ℕ) (c : Cursor) → Answer (Values × List ℕ) → Step → Type 0

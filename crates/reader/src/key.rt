@@ -4,7 +4,7 @@ use crate::cursor::Step;
 use crate::cursor::refused;
 use crate::seen::Seen;
 use crate::seen::key_seen;
-use crate::table::place;
+use crate::table::add_node;
 use format::kind::Kind;
 use keys::KeyWords;
 use scanner::Scan;
@@ -74,5 +74,5 @@ pub(crate) fn read_key(
     if key_seen(source, table, filter, first, node, key, seen) {
         return Step::Refused(9, at);
     }
-    Step::Done(place(table, cursor, tag, text, false))
+    Step::Done(add_node(table, cursor, tag, text, false))
 }

@@ -3,7 +3,7 @@ use crate::cursor::Cursor;
 use crate::cursor::Step;
 use crate::cursor::refused;
 use crate::lookup::node_of;
-use crate::table::place;
+use crate::table::add_node;
 use format::kind::Kind;
 use scanner::Scan;
 use scanner::Text;
@@ -32,7 +32,7 @@ fn put_scalar(
     let Scan::Is(text) = scan else {
         return refused(scan, cursor.at);
     };
-    Step::Done(place(table, cursor, tag, text, true))
+    Step::Done(add_node(table, cursor, tag, text, true))
 }
 
 // A scalar: its text, then its node.
@@ -102,5 +102,5 @@ pub(crate) fn read_reference(
         next: text.next,
     };
     let kind = Kind { tag };
-    Step::Done(place(table, cursor, tag, resolved, kind.has_ordinal()))
+    Step::Done(add_node(table, cursor, tag, resolved, kind.has_ordinal()))
 }

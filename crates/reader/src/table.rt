@@ -13,7 +13,7 @@ ghost use Prim.Native.Nat.{_+_, _*_, _≤_};
 ghost use lib.ListN.{length};
 ghost use lib.Seq.{sets};
 ghost use Rattle.format.specs.Table.{width, words};
-ghost use Rattle.reader.specs.Nodes.{nodeOf, Placed, Entered};
+ghost use Rattle.reader.specs.Nodes.{nodeOf, NodeAdded, NodeOpened};
 
 // Writes the words of a node.
 fn put_node(table: &mut [u64], node: usize, tag: u8, ordinal: u64, text: Text, end: u64)
@@ -38,9 +38,15 @@ pub(crate) fn put_end(table: &mut [u64], node: usize, end: u64)
 }
 
 // Writes the node of a key, or of a value that holds none, with the next ordinal if it takes one; the cursor behind it.
-pub(crate) fn place(table: &mut [u64], cursor: Cursor, tag: u8, text: Text, taken: bool) -> Cursor
+pub(crate) fn add_node(
+    table: &mut [u64],
+    cursor: Cursor,
+    tag: u8,
+    text: Text,
+    taken: bool,
+) -> Cursor
     requires { ⌜ (cursor .node * width + width ≤ length (now table)) × (cursor .ordinal ≤ cursor .node) ⌝ }
-    ensures { λ r. ⌜ Placed (now (table .entry)) (now (table .exit)) cursor tag text taken r ⌝ }
+    ensures { λ r. ⌜ NodeAdded (now (table .entry)) (now (table .exit)) cursor tag text taken r ⌝ }
 {
     let node = cursor.node;
     let mut ordinal = cursor.ordinal;
@@ -60,9 +66,9 @@ pub(crate) fn place(table: &mut [u64], cursor: Cursor, tag: u8, text: Text, take
 
 // Writes the node of a container, when its head is read, so that nodes stand in the order of their tags. Its end is 0 until its brace is read.
 // The cursor at its first pair.
-pub(crate) fn enter(table: &mut [u64], cursor: Cursor, tag: u8, text: Text) -> Cursor
+pub(crate) fn open_node(table: &mut [u64], cursor: Cursor, tag: u8, text: Text) -> Cursor
     requires { ⌜ (cursor .node * width + width ≤ length (now table)) × (cursor .ordinal ≤ cursor .node) × (1 ≤ cursor .levels) ⌝ }
-    ensures { λ r. ⌜ Entered (now (table .entry)) (now (table .exit)) cursor tag text r ⌝ }
+    ensures { λ r. ⌜ NodeOpened (now (table .entry)) (now (table .exit)) cursor tag text r ⌝ }
 {
     let node = cursor.node;
     let ordinal = cursor.ordinal + 1;

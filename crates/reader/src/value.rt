@@ -13,7 +13,7 @@ use crate::leaf::read_reference;
 use crate::leaf::read_scalar;
 use crate::seen::Seen;
 use crate::seen::next;
-use crate::table::enter;
+use crate::table::open_node;
 use crate::table::put_end;
 use bytes_at::byte_is;
 use format::kind::Kind;
@@ -112,7 +112,7 @@ fn read_container(
     let Scan::Is(text) = scan else {
         return refused(scan, at);
     };
-    let inside = enter(table, cursor, tag, text);
+    let inside = open_node(table, cursor, tag, text);
     let step = read_pairs(source, table, filter, capacity, tag, inside, text.link);
     let Step::Done(last) = step else {
         return step;

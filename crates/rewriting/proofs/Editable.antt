@@ -13,7 +13,7 @@ use Rattle.rewriting.specs.declared.Edit.{Edit}
 use Rattle.rewriting.specs.declared.Edited.{Edited}
 use Rattle.rewriting.specs.declared.inserted.Spot.{Spot}
 use Rattle.rewriting.specs.Output.{Within, Puts}
-use Rattle.rewriting.specs.Edited.{canonicalText, insertedText, editedText, stands, placed, writable, Edits, written, unfit, Insertable, Parted}
+use Rattle.rewriting.specs.Edited.{canonicalText, insertedText, editedText, stands, spotInside, writable, Edits, written, unfit, Insertable, Parted}
 use Rattle.rewriting.proofs.Outputs.{puts-as}
 use Rattle.rewriting.proofs.Measures.{insertable, parted-most, canonical-text-most, canonical-within}
 
@@ -31,14 +31,14 @@ module _ (n : ℕ) (e : Edit) (key value : ℕ) where
       pub value-long : sourceLimit + 1 ≤ value → writable n e key value ≡ false
       value-long j = rw (le-leb n sourceLimit h, le-leb key sourceLimit i, lt-leb value sourceLimit (omega arith))
 
-      pub by-place : value ≤ sourceLimit → writable n e key value ≡ placed n e
-      by-place j = rw (le-leb n sourceLimit h, le-leb key sourceLimit i, le-leb value sourceLimit j)
+      pub by-spot : value ≤ sourceLimit → writable n e key value ≡ spotInside n e
+      by-spot j = rw (le-leb n sourceLimit h, le-leb key sourceLimit i, le-leb value sourceLimit j)
 
-  pub placed-canonical : e ≡ Edit.Canonical → placed n e ≡ true
-  placed-canonical i = ap (placed n) i
+  pub inside-canonical : e ≡ Edit.Canonical → spotInside n e ≡ true
+  inside-canonical i = ap (spotInside n) i
 
-  pub placed-insert : {p : Spot} → e ≡ Edit.Insert p → placed n e ≡ stands n p
-  placed-insert i = ap (placed n) i
+  pub inside-insert : {p : Spot} → e ≡ Edit.Insert p → spotInside n e ≡ stands n p
+  inside-insert i = ap (spotInside n) i
 
 -- ---- what they say
 
@@ -46,20 +46,20 @@ record Sizes (n : ℕ) (e : Edit) (k v : ℕ) : Type 0 where
   source : n ≤ sourceLimit
   key : k ≤ sourceLimit
   value : v ≤ sourceLimit
-  standing : placed n e ≡ true
+  standing : spotInside n e ≡ true
 
 sizes : (n : ℕ) (e : Edit) (key value : ℕ) → writable n e key value ≡ true → Sizes n e key value
 sizes n e key value w =
-    let b : Bool = leb key sourceLimit && (leb value sourceLimit && placed n e) in
-    let c : Bool = leb value sourceLimit && placed n e in
+    let b : Bool = leb key sourceLimit && (leb value sourceLimit && spotInside n e) in
+    let c : Bool = leb value sourceLimit && spotInside n e in
     record {
       source = leb→le n sourceLimit (and-left (leb n sourceLimit) b (T-of w));
       key = leb→le key sourceLimit (and-left (leb key sourceLimit) c (and-right (leb n sourceLimit) b (T-of w)));
       value =
           leb→le value sourceLimit
-          (and-left (leb value sourceLimit) (placed n e) (and-right (leb key sourceLimit) c (and-right (leb n sourceLimit) b (T-of w))));
+          (and-left (leb value sourceLimit) (spotInside n e) (and-right (leb key sourceLimit) c (and-right (leb n sourceLimit) b (T-of w))));
       standing =
-          T-true (placed n e) (and-right (leb value sourceLimit) (placed n e) (and-right (leb key sourceLimit) c (and-right (leb n sourceLimit) b (T-of w))));
+          T-true (spotInside n e) (and-right (leb value sourceLimit) (spotInside n e) (and-right (leb key sourceLimit) c (and-right (leb n sourceLimit) b (T-of w))));
     }
 
 -- ---- what is written
@@ -71,7 +71,7 @@ module _ (s : List ℕ) (e : Edit) (key value : List ℕ) (f : writable (length 
   pub insert-room : {p : Spot} → e ≡ Edit.Insert p → Insertable s key value p
   insert-room {p} i =
       let z = sizes (length s) e (length key) (length value) f in
-      insertable s key value p (sym (placed-insert (length s) e (length key) (length value) i) ∙ z .standing) (z .source) (z .key) (z .value)
+      insertable s key value p (sym (inside-insert (length s) e (length key) (length value) i) ∙ z .standing) (z .source) (z .key) (z .value)
 
   pub puts-edited : {t out out′ : List ℕ} {n : ℕ} → editedText s e key value ≡ t → Puts t 0 out n out′ → Edits s e key value out out′ (Edited.Written n)
   puts-edited {n = n} i put = written n f (puts-as i put)
@@ -95,7 +95,7 @@ pub record Put (s : List ℕ) (e : Edit) (key value out out′ : List ℕ) (n : 
   pub fit : writable (length s) e (length key) (length value) ≡ true
   pub text : Puts (editedText s e key value) 0 out n out′
 
-pub record Kept (s : List ℕ) (e : Edit) (key value out out′ : List ℕ) : Type 0 where
+pub record Untouched (s : List ℕ) (e : Edit) (key value out out′ : List ℕ) : Type 0 where
   pub unfit : writable (length s) e (length key) (length value) ≡ false
   pub same : out′ ≡ out
 
@@ -119,7 +119,7 @@ module _ {s : List ℕ} {e : Edit} {key value out out′ : List ℕ} where
       differ : true ≡ false → ⊥
       differ j = let z : _≡_ {A = ℕ} 0 1 = cc in omega arith
 
-  pub unfit-of : {r : Edited} → Edits s e key value out out′ r → r ≡ Edited.Unfit → Kept s e key value out out′
+  pub unfit-of : {r : Edited} → Edits s e key value out out′ r → r ≡ Edited.Unfit → Untouched s e key value out out′
   unfit-of (written m f p) i = absurd (never i)
     where
       never : {n : ℕ} → Edited.Written n ≡ Edited.Unfit → ⊥

@@ -35,13 +35,13 @@ module _ (n : ℕ) (p : Spot) where
       by-count j = rw (le-leb 2 (p .inside) h, le-leb (p .at) (p .inside - 2) i, le-leb (p .inside) n j)
 
 -- what the test says
-pub record Head (n : ℕ) (p : Spot) : Type 0 where
+pub record HeadRoom (n : ℕ) (p : Spot) : Type 0 where
   pub some : 2 ≤ p .inside
   pub long : p .at ≤ p .inside - 2
   pub inside : p .inside ≤ n
   pub low : p .count ≤ numberLimit
 
-pub head-of : (n : ℕ) (p : Spot) → stands n p ≡ true → Head n p
+pub head-of : (n : ℕ) (p : Spot) → stands n p ≡ true → HeadRoom n p
 head-of n p e =
     let a : Bool = leb 2 (p .inside) in
     let b : Bool = leb (p .at) (p .inside - 2) in
@@ -65,7 +65,7 @@ module _ {s key value : List ℕ} {p : Spot} (a : Insertable s key value p) wher
   abbrev c : Change
   c = Change.Raise (p .ordinal)
 
-  pub head-here : Head (length s) p
+  pub head-here : HeadRoom (length s) p
   head-here = head-of (length s) p (a .head)
 
   pub front-within : Within (rewrittenText c s 0 (p .at)) 0

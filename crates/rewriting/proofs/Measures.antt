@@ -24,7 +24,7 @@ use Rattle.rewriting.specs.declared.inserted.Spot.{Spot}
 use Rattle.rewriting.specs.Output.{Within}
 use Rattle.rewriting.specs.Rewriting.{changedToken, changedText, rewrittenText}
 use Rattle.rewriting.specs.Edited.{canonicalText, grownHead, insertedText, stands, Insertable, Parted}
-use Rattle.rewriting.proofs.InsertedTexts.{Head, head-of}
+use Rattle.rewriting.proofs.InsertedTexts.{HeadRoom, head-of}
 
 -- ---- one token
 
@@ -174,7 +174,7 @@ module _ (s key value : List ℕ) (p : Spot) where
   module _ (e : stands (length s) p ≡ true) where
     head-most : length (grownHead s p) ≤ 9
     head-most =
-        let h : Head (length s) p = head-of (length s) p e in
+        let h : HeadRoom (length s) p = head-of (length s) p e in
         omega (
           arith,
           h .some,
@@ -206,7 +206,7 @@ module _ (s key value : List ℕ) (p : Spot) where
     -- around an array's head and a gap between tokens
     pub parted-most : Parted s p → 4 * length (insertedText s key value p) ≤ 5 * length s + 4 * length key + 4 * length value + 36
     parted-most g =
-        let h : Head (length s) p = head-of (length s) p e in
+        let h : HeadRoom (length s) p = head-of (length s) p e in
         omega (
           arith,
           inserted-length,

@@ -29,7 +29,7 @@ use Rattle.rewriting.specs.Shortest.{numberedText, shortestBy, shortestT
 use Rattle.tokens.specs.Tokens.{Token, scalar, reference, opening, closing, ReferenceTag, writeToken, canonicalToken, raisedToken}
 use Rattle.rewriting.specs.Rewriting.{Named, raisedText, respelledText, changedToken}
 use Rattle.rewriting.specs.declared.rewrite.Change.{Change}
-use Rattle.rewriting.proofs.Spelled.{raised-high, raised-low, raised-other}
+use Rattle.rewriting.proofs.Spelled.{spelled-high, spelled-low, spelled-other}
 use Rattle.tokens.proofs.Tagged.{Refers, tagged}
 use Rattle.rewriting.proofs.Outputs.{slice-of}
 use Rattle.tokens.proofs.TokenLaws.{token-front, token-some}
@@ -230,10 +230,10 @@ module _ (k : ℕ) (s : List ℕ) (at : ℕ) (x : Text) where
 
       by : Order (r .named) k → raisedText k s at x ≡ writeToken (raisedToken k (reference r)) []
       by (below h) =
-          raised-low k s at x o (omega (arith, named)) ∙ whole s at x (reference r) st
+          spelled-low k s at x o (omega (arith, named)) ∙ whole s at x (reference r) st
           ∙ ap (λ (q : Reference). writeToken (reference q) []) (sym (meanings.raised-low k r h))
       by (above h) =
-          raised-high k s at x o (omega (arith, named))
+          spelled-high k s at x o (omega (arith, named))
           ∙ ap (λ (m : ℕ). numberedText s at m (x .next - 1) (x .next)) (add-one (x .content) ∙ ap suc named)
           ∙ tail-of s at x (tag (refKind (r .kind))) (r .spelling) (r .named) (suc (r .named)) 1 (59 ∷ []) (st .inside) (st .written) refl
           ∙ ap (λ (q : Reference). writeToken (reference q) []) (sym (meanings.raised-high k r h))
@@ -243,7 +243,7 @@ module _ (k : ℕ) (s : List ℕ) (at : ℕ) (x : Text) where
   first-of t st = let g = tagged t (drop (x .next) s) in first-byte s at (g .byte) (g .behind) (st .written ∙ g .is)
 
   other : (t : Token) → Stands s at t x → (Refers t → ⊥) → raisedText k s at x ≡ writeToken t []
-  other t st n = raised-other k s at x (λ o. n (tagged t (drop (x .next) s) .refers (subst ReferenceTag (first-of t st) o))) ∙ whole s at x t st
+  other t st n = spelled-other k s at x (λ o. n (tagged t (drop (x .next) s) .refers (subst ReferenceTag (first-of t st) o))) ∙ whole s at x t st
 
   -- A REFERENCE RAISED, ALL ELSE AS IT STANDS
   pub raised-is : (t : Token) → Stands s at t x → raisedText k s at x ≡ writeToken (raisedToken k t) []

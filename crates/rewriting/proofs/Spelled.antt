@@ -14,10 +14,10 @@ use Rattle.scanner.specs.declared.Text.{Text}
 use Rattle.tokens.specs.Tokens.{ReferenceTag}
 use Rattle.rewriting.specs.Rewriting.{raisedIf, raisedText, respelledText}
 use Rattle.rewriting.specs.declared.rewrite.Change.{Change}
-use Rattle.rewriting.specs.Shortest.{numberedText, signedText, objectHeadText, shortestBy, shortestText, Bounds}
+use Rattle.rewriting.specs.Shortest.{numberedText, shortestSigned, objectHeadText, shortestBy, shortestText, Bounds}
 
 module _ (s : List ℕ) (at : ℕ) (x : Text) where
-  pub int-text : getD s at 0 ≡ tag Kind.int → shortestText s at x ≡ signedText s at (x .content) (x .next)
+  pub int-text : getD s at 0 ≡ tag Kind.int → shortestText s at x ≡ shortestSigned s at (x .content) (x .next)
   unfolding shortestText
   int-text i = rw i
 
@@ -63,14 +63,14 @@ module _ (k : ℕ) (s : List ℕ) (at : ℕ) (x : Text) where
   unfolding raisedText
   raised-as a b e f = ap₂ (λ (p q : Bool). raisedIf (p && q) s at x) e f
 
-  pub raised-high : ReferenceTag (getD s at 0) → k ≤ x .content → raisedText k s at x ≡ numberedText s at (x .content + 1) (x .next - 1) (x .next)
-  raised-high o h = raised-as true true (referring (getD s at 0) o) (le-leb k (x .content) h)
+  pub spelled-high : ReferenceTag (getD s at 0) → k ≤ x .content → raisedText k s at x ≡ numberedText s at (x .content + 1) (x .next - 1) (x .next)
+  spelled-high o h = raised-as true true (referring (getD s at 0) o) (le-leb k (x .content) h)
 
-  pub raised-low : ReferenceTag (getD s at 0) → x .content < k → raisedText k s at x ≡ slice at (x .next) s
-  raised-low o h = raised-as true false (referring (getD s at 0) o) (lt-leb k (x .content) h)
+  pub spelled-low : ReferenceTag (getD s at 0) → x .content < k → raisedText k s at x ≡ slice at (x .next) s
+  spelled-low o h = raised-as true false (referring (getD s at 0) o) (lt-leb k (x .content) h)
 
-  pub raised-other : (ReferenceTag (getD s at 0) → ⊥) → raisedText k s at x ≡ slice at (x .next) s
-  raised-other n = raised-as false (leb k (x .content)) (rw (ne-eqb (getD s at 0) 114 (λ i. n (inr i)), ne-eqb (getD s at 0) 82 (λ i. n (inl i)))) refl
+  pub spelled-other : (ReferenceTag (getD s at 0) → ⊥) → raisedText k s at x ≡ slice at (x .next) s
+  spelled-other n = raised-as false (leb k (x .content)) (rw (ne-eqb (getD s at 0) 114 (λ i. n (inr i)), ne-eqb (getD s at 0) 82 (λ i. n (inl i)))) refl
 
 -- ---- by the change
 

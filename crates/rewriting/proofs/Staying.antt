@@ -25,7 +25,7 @@ use Rattle.rewriting.specs.Shortest.{ShortestFront, shortestText, Bounds
 use Rattle.rewriting.specs.Rewriting.{respelledText}
 use Rattle.rewriting.specs.Shortest as fronts
 use Rattle.rewriting.specs.Stretches.{Changes, Stays}
-use Rattle.rewriting.proofs.Spelled.{as-canonical, as-raised, raised-low, raised-other}
+use Rattle.rewriting.proofs.Spelled.{as-canonical, as-raised, spelled-low, spelled-other}
 use Rattle.rewriting.proofs.Respelled.{whole, respelled, bounds}
 
 -- ---- digits
@@ -173,7 +173,7 @@ module _ {c : Change} (s : List ℕ) (at : ℕ) (x : Text) where
 
   module _ {k : ℕ} (e : c ≡ Change.Raise k) where
     pub reference-stays : ReferenceTag (getD s at 0) → x .content < k → Stays c s at x true
-    reference-stays o h = does-stay (as-raised s at x e ∙ raised-low k s at x o h)
+    reference-stays o h = does-stay (as-raised s at x e ∙ spelled-low k s at x o h)
 
     pub reference-changes : ReferenceTag (getD s at 0) → k ≤ x .content → Stays c s at x false
     reference-changes o h = record { kept = λ i. absurd (differ (sym i)); changes = λ i. record { raises = λ m j. (o, omega (arith, h, one (sym e ∙ j))) } }
@@ -182,4 +182,4 @@ module _ {c : Change} (s : List ℕ) (at : ℕ) (x : Text) where
         one j = cc
 
     pub other-stays : (ReferenceTag (getD s at 0) → ⊥) → Stays c s at x true
-    other-stays n = does-stay (as-raised s at x e ∙ raised-other k s at x n)
+    other-stays n = does-stay (as-raised s at x e ∙ spelled-other k s at x n)

@@ -39,12 +39,12 @@ editedText s (Edit.Insert p) key value = insertedText s key value p
 abbrev pub stands : (size : ℕ) → Spot → Bool
 stands n p = leb 2 (p .inside) && (leb (p .at) (p .inside - 2) && (leb (p .inside) n && leb (p .count) numberLimit))
 
-abbrev pub placed : (size : ℕ) → Edit → Bool
-placed n Edit.Canonical = true
-placed n (Edit.Insert p) = stands n p
+abbrev pub spotInside : (size : ℕ) → Edit → Bool
+spotInside n Edit.Canonical = true
+spotInside n (Edit.Insert p) = stands n p
 
 abbrev pub writable : (size : ℕ) → Edit → (key value : ℕ) → Bool
-writable n e key value = leb n sourceLimit && (leb key sourceLimit && (leb value sourceLimit && placed n e))
+writable n e key value = leb n sourceLimit && (leb key sourceLimit && (leb value sourceLimit && spotInside n e))
 
 -- WHAT WRITING ANSWERS AND LEAVES: the text and its length; nothing of any other edit
 pub data Edits (s : List ℕ) (e : Edit) (key value out out′ : List ℕ) : Edited → Type 0 where

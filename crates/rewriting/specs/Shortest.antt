@@ -23,8 +23,8 @@ abbrev pub numberedText : List ℕ → (at n from to : ℕ) → List ℕ
 numberedText s at n from to = slice at (at + 2) s ++ (decimal n ++ slice from to s)
 
 -- a tag and its colon, the shortest text of an integer's word, and the last byte
-abbrev pub signedText : List ℕ → (at word next : ℕ) → List ℕ
-signedText s at word next = slice at (at + 2) s ++ (signedDigits word ++ slice (next - 1) next s)
+abbrev pub shortestSigned : List ℕ → (at word next : ℕ) → List ℕ
+shortestSigned s at word next = slice at (at + 2) s ++ (signedDigits word ++ slice (next - 1) next s)
 
 -- a class name's length, the name in its quotes with both colons, the count, and the opening brace
 abbrev pub objectHeadText : List ℕ → (at : ℕ) → Text → List ℕ
@@ -33,7 +33,7 @@ objectHeadText s at x = numberedText s at (x .size) (x .content - 2) (x .content
 -- by its tag
 abbrev pub shortestBy : (tag : ℕ) → List ℕ → (at : ℕ) → Text → List ℕ
 shortestBy b s at x = elim (eqb b (tag Kind.int)) [
-  | true ↦ signedText s at (x .content) (x .next)
+  | true ↦ shortestSigned s at (x .content) (x .next)
   | false ↦ elim (eqb b (tag Kind.string)) [
     | true ↦ numberedText s at (x .size) (x .content - 2) (x .next)
     | false ↦ elim (eqb b (tag Kind.array)) [

@@ -10,7 +10,7 @@ ghost use mathlib.Core.Bool.{true};
 ghost use Prim.Native.Nat.{_+_, _≤_};
 ghost use lib.ListN.{length};
 ghost use Rattle.rewriting.specs.Output.{Within, Puts};
-ghost use Rattle.rewriting.specs.Shortest.{ShortestFront, numberedText, signedText, objectHeadText, shortestText, QuotedBounds, Bounds};
+ghost use Rattle.rewriting.specs.Shortest.{ShortestFront, numberedText, shortestSigned, objectHeadText, shortestText, QuotedBounds, Bounds};
 
 // Whether a number or an integer is in shortest form, by its first two bytes: a digit other than 0; or one digit and no more; or a minus and a digit other
 // than 0.
@@ -49,8 +49,8 @@ pub(crate) fn numbered(
 
 // An integer: its tag and its colon, the shortest text of a word, and the semicolon.
 fn signed(source: &[u8], at: usize, word: u64, next: usize, out: &mut [u8], w: usize) -> usize
-    requires { ⌜ (at + 4 ≤ next) × (next ≤ length (now source)) × Within (signedText (now source) at word next) w ⌝ }
-    ensures { λ r. ⌜ Puts (signedText (now (source .entry)) at word next) w (now (out .entry)) r (now (out .exit)) ⌝ }
+    requires { ⌜ (at + 4 ≤ next) × (next ≤ length (now source)) × Within (shortestSigned (now source) at word next) w ⌝ }
+    ensures { λ r. ⌜ Puts (shortestSigned (now (source .entry)) at word next) w (now (out .entry)) r (now (out .exit)) ⌝ }
 {
     let start = copy(source, at, at + 2, out, w);
     let digits = integer(word, out, start);

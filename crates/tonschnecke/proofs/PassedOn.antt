@@ -5,11 +5,11 @@ use Prim.Native.Nat.{ℕ}
 use Rattle.format.specs.Answer.{Answer}
 use Rattle.editor.specs.Promise as editor
 use Rattle.editor.specs.declared.Writing.{Writing}
-use Rattle.tonschnecke.specs.Promise.{writingOf, Writes}
+use Rattle.tonschnecke.specs.Promise.{writingOf, TonWrites}
 use Rattle.tonschnecke.specs.declared.writing.TonWriting.{TonWriting}
 
 pub passed-on : {bytes : Answer (List ℕ)} {source before after out out′ : List ℕ} {a : Writing} {r : TonWriting}
-    → editor.Writes bytes source before after out out′ a → r ≡ writingOf (editor.answerOf a)
-    → Writes bytes source before after out out′ r
+    → editor.Writes bytes source before after out out′ a → r ≡ writingOf (editor.writingAnswer a)
+    → TonWrites bytes source before after out out′ r
 passed-on {bytes} {source} {before} {after} {out} {out′} writes e =
-    subst (Writes bytes source before after out out′) (sym e) (record { answer = ap writingOf (writes .answer); leaves = writes .leaves })
+    subst (TonWrites bytes source before after out out′) (sym e) (record { answer = ap writingOf (writes .answer); leaves = writes .leaves })

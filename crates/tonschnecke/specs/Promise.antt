@@ -14,16 +14,16 @@ readingOf (ok counts) = record { code = 0; at = 0; nodes = counts .nodes; ordina
 readingOf (refused code at) = record { code = code; at = at; nodes = 0; ordinals = 0 }
 
 -- demands 1 and 2 for reading, as C sees it: the whole struct, and every word of the table
-pub record Reads (source before after : List ℕ) (r : TonReading) : Type 0 where
+pub record TonReads (source before after : List ℕ) (r : TonReading) : Type 0 where
   pub answer : r ≡ readingOf (answer (capacityOf before) source)
   pub table : after ≡ tableAfter source before
 
 -- and code 0 says that the bytes are written
 unfoldable pub writingOf : Answer ℕ → TonWriting
-writingOf (ok length) = record { code = 0; at = 0; length = length }
+writingOf (ok size) = record { code = 0; at = 0; length = size }
 writingOf (refused code at) = record { code = code; at = at; length = 0 }
 
 -- the same for a service that writes a plan: the whole struct, every word of the table, every byte of the output
-pub record Writes (bytes : Answer (List ℕ)) (source before after out out′ : List ℕ) (r : TonWriting) : Type 0 where
+pub record TonWrites (bytes : Answer (List ℕ)) (source before after out out′ : List ℕ) (r : TonWriting) : Type 0 where
   pub answer : r ≡ writingOf (lengthOf bytes)
   pub leaves : Leaves bytes source before after out out′

@@ -1,6 +1,6 @@
 // Reading, for C.
 use reader::Reading;
-ghost use Rattle.tonschnecke.specs.Promise.{Reads};
+ghost use Rattle.tonschnecke.specs.Promise.{TonReads};
 
 // What reading answers. Code 0: accepted, and `at` is 0; a refusal has 0 nodes and 0 ordinals.
 #[repr(C)]
@@ -11,10 +11,10 @@ pub struct TonReading {
     pub ordinals: u64,
 }
 
-// Reads a plan into the table; a refusal makes every word of it zero.
+// TonReads a plan into the table; a refusal makes every word of it zero.
 #[no_mangle]
 pub extern "C" fn ton_read(source: &[u8], table: &mut [u64]) -> TonReading
-    ensures { λ r. ⌜ Reads (now (source .entry)) (now (table .entry)) (now (table .exit)) r ⌝ }
+    ensures { λ r. ⌜ TonReads (now (source .entry)) (now (table .entry)) (now (table .exit)) r ⌝ }
 {
     match reader::read(source, table) {
         Reading::Accepted { nodes, ordinals } => TonReading {

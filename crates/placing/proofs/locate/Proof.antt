@@ -24,8 +24,8 @@ returns c =
     let read = c .before .before .before .before .before in
     locating.locates-unread (read .read .ensures) _ _ _ _ (c .before .enum-told .given .1) (c .as-placing .ensures)
 
-place-requires : tie.Need-place-requires
-place-requires c κs =
+find-spot-requires : tie.Need-find-spot-requires
+find-spot-requires c κs =
     let known = c .before .before in
     locating.given (known .before .before .before .before .read .ensures) (known .reading .given .1)
 
@@ -44,10 +44,10 @@ same-length-2 c = search needs
 returns-2 : tie.Need-returns-2
 returns-2 c =
     let told = c .before .before .before .before in
-    let placed = told .before .before in
-    let known = placed .before .before .before in
+    let spotted = told .before .before in
+    let known = spotted .before .before .before in
     let read = known .before .before .before .before in
-    locating.locates-refused (read .read .ensures) (known .reading .given .1) _ _ _ _ (placed .place .ensures) (told .enum-told3 .given .1)
+    locating.locates-refused (read .read .ensures) (known .reading .given .1) _ _ _ _ (spotted .find-spot .ensures) (told .enum-told3 .given .1)
     (c .before .before .clear .ensures)
 
 same-length-3 : tie.Need-same-length-3
@@ -55,10 +55,10 @@ same-length-3 c = search needs
 
 returns-3 : tie.Need-returns-3
 returns-3 c =
-    let placed = c .before .before in
-    let known = placed .before .before .before in
+    let spotted = c .before .before in
+    let known = spotted .before .before .before in
     let read = known .before .before .before .before in
-    locating.locates-at (read .read .ensures) (known .reading .given .1) _ _ _ _ (placed .place .ensures) (c .enum-told2 .given .1)
+    locating.locates-at (read .read .ensures) (known .reading .given .1) _ _ _ _ (spotted .find-spot .ensures) (c .enum-told2 .given .1)
 
 pub locate-spec : {M : Type 1} → statement M
 locate-spec =
@@ -70,7 +70,7 @@ locate-spec =
     as-placing-requires
     same-length
     returns
-    place-requires
+    find-spot-requires
     enum-told-2
     enum-told-3
     clear-requires

@@ -34,8 +34,8 @@ returns-4 c =
     let short = c .before .before in
     let args = short .before .before .before .args in
     sym
-    (editable.by-place _ (args .edit) _ _ (short .before .before .if1 .left) (short .before .if2 .left) (short .if3 .left)
-    ∙ editable.placed-canonical _ _ (args .key) (args .value) (c .enum-told .given .1))
+    (editable.by-spot _ (args .edit) _ _ (short .before .before .if1 .left) (short .before .if2 .left) (short .if3 .left)
+    ∙ editable.inside-canonical _ _ (args .key) (args .value) (c .enum-told .given .1))
 
 returns-5 : tie.Need-returns-5
 returns-5 c =
@@ -44,8 +44,8 @@ returns-5 c =
     let args = short .before .before .before .args in
     c .has-head .ensures
     ∙ sym
-    (editable.by-place _ (args .edit) _ _ (short .before .before .if1 .left) (short .before .if2 .left) (short .if3 .left)
-    ∙ editable.placed-insert _ _ (args .key) (args .value) (known .edit .given .1))
+    (editable.by-spot _ (args .edit) _ _ (short .before .before .if1 .left) (short .before .if2 .left) (short .if3 .left)
+    ∙ editable.inside-insert _ _ (args .key) (args .value) (known .edit .given .1))
 
 pub can-write-spec : {M : Type 1} → statement M
 can-write-spec =

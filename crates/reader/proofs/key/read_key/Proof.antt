@@ -139,8 +139,8 @@ returns-5 c =
       steps.none-more _ _ _ _ _ _ _ _ _ _ _ refl (tested .key-seen .ensures .grows),
     )
 
-place-requires : tie.Need-place-requires
-place-requires c κs = search needs
+add-node-requires : tie.Need-add-node-requires
+add-node-requires c κs = search needs
 
 same-length-3 : tie.Need-same-length-3
 same-length-3 c = search needs
@@ -150,8 +150,8 @@ same-length-4 c = search needs
 
 returns-6 : tie.Need-returns-6
 returns-6 c =
-    let placed = c .before .before in
-    let new = placed .before .before in
+    let added = c .before .before in
+    let new = added .before .before in
     let tested = new .before .before .before in
     let found = tested .before .before .before .before in
     let scanned = found .before .before in
@@ -161,8 +161,8 @@ returns-6 c =
       λ earlier e.
           let once = e .same _ ∙ sym (tested .key-seen .ensures .answer _ _ held (e .chain) (e .known)) ∙ new .if4 .left in
           steps.key-good _ _ _ _ earlier _ (inside scanned .if1 .left) refl (may scanned) (room scanned .if3 .left) _ is
-          _ _ _ fit once (placed .place .ensures),
-      steps.one-more _ _ _ _ _ _ _ _ _ _ _ _ _ _ fit (room scanned .if3 .left) (tested .key-seen .ensures) (placed .place .ensures),
+          _ _ _ fit once (added .add-node .ensures),
+      steps.one-more _ _ _ _ _ _ _ _ _ _ _ _ _ _ fit (room scanned .if3 .left) (tested .key-seen .ensures) (added .add-node .ensures),
     )
 
 pub read-key-spec : {M : Type 1} → statement M
@@ -185,7 +185,7 @@ read-key-spec =
     same-length
     same-length-2
     returns-5
-    place-requires
+    add-node-requires
     same-length-3
     same-length-4
     returns-6)

@@ -53,16 +53,16 @@ node-of-requires c κs = search needs
 has-ordinal-requires : tie.Need-has-ordinal-requires
 has-ordinal-requires c κs = search needs
 
-place-requires : tie.Need-place-requires
-place-requires c κs = search needs
+add-node-requires : tie.Need-add-node-requires
+add-node-requires c κs = search needs
 
 same-length : tie.Need-same-length
 same-length c = search needs
 
 returns-4 : tie.Need-returns-4
 returns-4 c =
-    let placed = c .before .before in
-    let numbered = placed .before in
+    let added = c .before .before in
+    let numbered = added .before in
     let resolved = numbered .before .before in
     let taken = resolved .before .before in
     let some = taken .before in
@@ -72,7 +72,7 @@ returns-4 c =
     let is = found-of (scanned .named .ensures .scans) (found .scan .given .1) in
     λ inner.
     leaves.reference-good _ _ _ _ (start .pre .1 .2) inner _ is (some .if1 .left) (taken .if2 .left) _ _ _ _ _ _ (start .pre .0) (start .pre .1 .1) refl
-    (numbered .has-ordinal .ensures) (resolved .node-of .ensures) (placed .place .ensures)
+    (numbered .has-ordinal .ensures) (resolved .node-of .ensures) (added .add-node .ensures)
 
 pub read-reference-spec : {M : Type 1} → statement M
 read-reference-spec =
@@ -88,6 +88,6 @@ read-reference-spec =
     returns-3
     node-of-requires
     has-ordinal-requires
-    place-requires
+    add-node-requires
     same-length
     returns-4)

@@ -9,7 +9,7 @@ use Rattle.reader.proofs.seen.walk.Statement.{statement}
 use Rattle.reader.proofs.seen.walk.Tie as tie
 
 abbrev Inv-loop : tie.InvT-loop
-Inv-loop source table first node key i₀ i = keys.Left source table first node key i
+Inv-loop source table first node key i₀ i = keys.KeysLeft source table first node key i
 
 abbrev μ-loop : tie.MeasureT-loop
 μ-loop source table first node key i₀ i = node - i

@@ -37,7 +37,7 @@ use Rattle.reader.proofs.leaf.read_common.Reads as read-common-reads
 use Rattle.reader.proofs.leaf.read_reference.Reads as read-reference-reads
 use Rattle.keys.proofs.key_at.Reads as key-at-reads
 use Rattle.reader.proofs.seen.next.Reads as next-reads
-use Rattle.reader.proofs.table.enter.Reads as enter-reads
+use Rattle.reader.proofs.table.open_node.Reads as open-node-reads
 use Rattle.reader.proofs.table.put_end.Reads as put-end-reads
 use Rattle.bytes_at.proofs.byte_is.Reads as byte-is-reads
 use Rattle.reader.proofs.value.+read_container+read_pairs+read_value.{statement}
@@ -79,8 +79,8 @@ container-calls t = (
   head-reads.Learnt,
   refused-reads.Asked,
   refused-reads.Learnt,
-  enter-reads.Asked,
-  enter-reads.Learnt,
+  open-node-reads.Asked,
+  open-node-reads.Learnt,
   pairs-below t,
   read-pairs.Post,
   byte-is-reads.Asked,
@@ -106,8 +106,8 @@ container-returns t c =
       grows-none _,
     )
 
-container-enter-requires : (t : ℕ) → Container t container-lts.Need-enter-requires
-container-enter-requires t c κs =
+container-open-node-requires : (t : ℕ) → Container t container-lts.Need-open-node-requires
+container-open-node-requires t c κs =
     let start = c .before .before .before .before .before .before .before .before in
     let fit = start .pre .1 .0 in
     let given = start .pre .1 .1 in
@@ -115,29 +115,29 @@ container-enter-requires t c κs =
 
 container-read-pairs-requires : (t : ℕ) → Container t container-lts.Need-read-pairs-requires
 container-read-pairs-requires t c κs =
-    let entered = c .before .before .before .before in
-    let found = entered .before .before .before in
+    let opened = c .before .before .before .before in
+    let found = opened .before .before .before in
     let headed = found .before .before in
     let start = headed .before .before .before .before in
     let fit = start .pre .1 .0 in
     let given = start .pre .1 .1 in
     let is = found-of (headed .head .ensures) (found .scan .given .1) in
-    let first = entered .enter .ensures .cursor in (
+    let first = opened .open-node .ensures .cursor in (
       omega (arith, ap (λ (i : Cursor). i .at) first, is .on, is .inside),
-      containers.first-fit _ _ _ _ _ _ _ first (is .inside) fit (given .1) (entered .enter .kept .0),
+      containers.first-fit _ _ _ _ _ _ _ first (is .inside) fit (given .1) (opened .open-node .kept .0),
     )
 
 container-returns-2 : (t : ℕ) → Container t container-lts.Need-returns-2
 container-returns-2 t c =
     let called = c .before .before .before .before .before .before in
-    let entered = called .before .before .before .before .before in
-    let found = entered .before .before .before in
+    let opened = called .before .before .before .before .before in
+    let found = opened .before .before .before in
     let headed = found .before .before in
     let start = headed .before .before .before .before in
     let is = found-of (headed .head .ensures) (found .scan .given .1) in
     let refused = subst (MeetsPairs _ _ _ _ _ _) (c .enum-told2 .given .1) (called .read-pairs .ensures .0) in (
       leaves.meets-bad _ _ _ _ _ _ _ _ _ (c .enum-told2 .given .1)
-          (containers.pairs-refused _ _ _ _ (start .pre .1 .1 .3) _ is _ (entered .enter .ensures .cursor) _ _ refused),
+          (containers.pairs-refused _ _ _ _ (start .pre .1 .1 .3) _ is _ (opened .open-node .ensures .cursor) _ _ refused),
       called .read-pairs .ensures .1,
     )
 
@@ -146,14 +146,14 @@ container-returns-3 t c =
     let compared = c .before in
     let read = compared .before .before in
     let called = read .before .before .before .before .before .before in
-    let entered = called .before .before .before .before .before in
-    let found = entered .before .before .before in
+    let opened = called .before .before .before .before .before in
+    let found = opened .before .before .before in
     let headed = found .before .before in
     let start = headed .before .before .before .before in
     let table = start .args .table .now in
     let is = found-of (headed .head .ensures) (found .scan .given .1) in
     let pairs = subst (MeetsPairs _ _ _ _ _ _) (read .step .given .1) (called .read-pairs .ensures .0) in (
-      containers.brace-missing _ _ _ _ (start .pre .1 .1 .3) _ is table _ _ table (start .pre .1 .0) (start .pre .1 .1 .1) _ _ (entered .enter .ensures) pairs
+      containers.brace-missing _ _ _ _ (start .pre .1 .1 .3) _ is table _ _ table (start .pre .1 .0) (start .pre .1 .1 .1) _ _ (opened .open-node .ensures) pairs
           (sym (compared .byte-is .ensures) ∙ not-true _ (c .if1 .taken)),
       called .read-pairs .ensures .1,
     )
@@ -182,14 +182,14 @@ container-returns-4 t c =
     let compared = closed .before in
     let read = compared .before .before in
     let called = read .before .before .before .before .before .before in
-    let entered = called .before .before .before .before .before in
-    let found = entered .before .before .before in
+    let opened = called .before .before .before .before .before in
+    let found = opened .before .before .before in
     let headed = found .before .before in
     let start = headed .before .before .before .before in
     let table = start .args .table .now in
     let is = found-of (headed .head .ensures) (found .scan .given .1) in
     let pairs = subst (MeetsPairs _ _ _ _ _ _) (read .step .given .1) (called .read-pairs .ensures .0) in (
-      containers.container-good _ _ _ _ (start .pre .1 .1 .3) _ is table _ _ _ (start .pre .1 .0) (start .pre .1 .1 .1) _ _ (entered .enter .ensures) pairs
+      containers.container-good _ _ _ _ (start .pre .1 .1 .3) _ is table _ _ _ (start .pre .1 .0) (start .pre .1 .1 .1) _ _ (opened .open-node .ensures) pairs
           (sym (compared .byte-is .ensures) ∙ not-false _ (closed .if1 .left)) (called .read-pairs .kept .1 .0) (ended .put-end .ensures),
       called .read-pairs .ensures .1,
     )
@@ -411,7 +411,7 @@ pub +read-container+read-pairs+read-value-spec : {M : Type 1} → statement M
     (λ c. search needs)
     (λ c κs. search needs)
     (container-returns t)
-    (container-enter-requires t)
+    (container-open-node-requires t)
     (container-read-pairs-requires t)
     (λ c. search needs)
     (λ c. search needs)

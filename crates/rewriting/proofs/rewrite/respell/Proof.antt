@@ -13,7 +13,7 @@ returns-2 c =
     let told = c .before .before .before .before .before in
     let pre = told .before .before .before .before .pre in
     let changes = pre .2 .raises _ (told .enum-told2 .given .1) in
-    puts-as (spelled.as-raised _ _ _ (told .enum-told2 .given .1) ∙ spelled.raised-high _ _ _ _ (changes .0) (changes .1))
+    puts-as (spelled.as-raised _ _ _ (told .enum-told2 .given .1) ∙ spelled.spelled-high _ _ _ _ (changes .0) (changes .1))
     (c .before .before .numbered .ensures)
 
 enum-told : tie.Need-enum-told
@@ -44,7 +44,7 @@ numbered-requires c κs =
       omega (arith, pre .0 .inside, spelled.more-of (pre .0) (changes .0)),
       omega arith,
       pre .0 .inside,
-      within-as (spelled.as-raised _ _ _ raising ∙ spelled.raised-high _ _ _ _ (changes .0) (changes .1)) (pre .3),
+      within-as (spelled.as-raised _ _ _ raising ∙ spelled.spelled-high _ _ _ _ (changes .0) (changes .1)) (pre .3),
     )
 
 same-length : tie.Need-same-length

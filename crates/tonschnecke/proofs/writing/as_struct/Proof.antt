@@ -1,6 +1,6 @@
 -- `tonschnecke::writing::as_struct` meets its contract. Assumes nothing.
 use mathlib.Core.Path.{sym, ap}
-use Rattle.editor.specs.Promise.{answerOf}
+use Rattle.editor.specs.Promise.{writingAnswer}
 use Rattle.editor.specs.declared.Writing.{Writing}
 use Rattle.tonschnecke.specs.Promise.{writingOf}
 use borrow.Author.Needs.{needs}
@@ -17,12 +17,12 @@ cast-t7 : tie.Need-cast-t7
 cast-t7 c = search needs
 
 returns : tie.Need-returns
-unfolding writingOf answerOf
-returns c = ap (λ (w : Writing). writingOf (answerOf w)) (sym (c .before .writing .given .1))
+unfolding writingOf writingAnswer
+returns c = ap (λ (w : Writing). writingOf (writingAnswer w)) (sym (c .before .writing .given .1))
 
 returns-2 : tie.Need-returns-2
-unfolding writingOf answerOf
-returns-2 c = ap (λ (w : Writing). writingOf (answerOf w)) (sym (c .before .writing2 .given .1))
+unfolding writingOf writingAnswer
+returns-2 c = ap (λ (w : Writing). writingOf (writingAnswer w)) (sym (c .before .writing2 .given .1))
 
 pub as-struct-spec : {M : Type 1} → statement M
 as-struct-spec =

@@ -1,21 +1,21 @@
 // Where a pair goes in the bytes of a plan that was read.
 use crate::Placing;
 use crate::pass::pass;
-use crate::site::Gap;
-use crate::site::Site;
-use crate::site::array_at;
-use crate::site::gap_at;
 use crate::steps::Check;
 use crate::steps::new_key;
 use crate::steps::shallow;
 use crate::steps::two_more;
+use crate::target::Gap;
+use crate::target::Target;
+use crate::target::array_at;
+use crate::target::gap_at;
 use crate::texts::Texts;
 use crate::texts::pair_texts;
 use format::table::WIDTH;
 use rewriting::inserted::Spot;
 use scanner::Scan;
 use tokens::token;
-ghost use Rattle.placing.specs.Placing.{Given, Placed, HeadAhead, BehindHead, SpotAhead, SpotIs};
+ghost use Rattle.placing.specs.Placing.{Given, FindsSpot, HeadAhead, BehindHead, SpotAhead, SpotIs};
 
 // The index behind the array's head, whose tag stands at an index.
 fn behind_head(source: &[u8], at: usize) -> usize
@@ -31,7 +31,7 @@ fn behind_head(source: &[u8], at: usize) -> usize
 }
 
 // The gap behind so many nodes of the array whose tag stands at an index.
-fn find_gap(source: &[u8], at: usize, nodes: usize, count: u64, ordinal: u64) -> Spot
+fn spot_at(source: &[u8], at: usize, nodes: usize, count: u64, ordinal: u64) -> Spot
     requires { ⌜ SpotAhead (now source) at nodes ⌝ }
     ensures { λ r. ⌜ ((a : SpotAhead (now (source .entry)) at nodes) → SpotIs (now (source .entry)) (a .head .rest) (a .rest) at count ordinal r) ⌝ }
 {
@@ -47,7 +47,7 @@ fn find_gap(source: &[u8], at: usize, nodes: usize, count: u64, ordinal: u64) ->
 }
 
 // The steps between reading and writing, in the order 11, 12, 13, 9, 8, 7.
-pub(crate) fn place(
+pub(crate) fn find_spot(
     source: &[u8],
     table: &[u64],
     nodes: usize,
@@ -57,10 +57,10 @@ pub(crate) fn place(
     value: &[u8],
 ) -> Placing
     requires { ⌜ Given (now source) (now table) nodes ⌝ }
-    ensures { λ r. ⌜ Placed (now (source .entry)) (now (table .entry)) «array_node» «pair_index» (now (key .entry)) (now (value .entry)) r ⌝ }
+    ensures { λ r. ⌜ FindsSpot (now (source .entry)) (now (table .entry)) «array_node» «pair_index» (now (key .entry)) (now (value .entry)) r ⌝ }
 {
-    let site = array_at(table, nodes, array_node);
-    let Site::Array { count, ordinal } = site else {
+    let target = array_at(table, nodes, array_node);
+    let Target::Array { count, ordinal } = target else {
         return Placing::Refused { code: 11, at: 0 };
     };
     let gap = gap_at(table, array_node, count, ordinal, pair_index);
@@ -85,5 +85,5 @@ pub(crate) fn place(
     let Check::Passed = room else {
         return Placing::Refused { code: 7, at: 0 };
     };
-    Placing::At(find_gap(source, reached.at, node - first, count, new))
+    Placing::At(spot_at(source, reached.at, node - first, count, new))
 }

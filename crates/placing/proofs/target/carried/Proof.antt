@@ -1,12 +1,12 @@
--- `placing::site::carried` meets its contract. Assumes nothing.
+-- `placing::target::carried` meets its contract. Assumes nothing.
 use native.Mathlib.Omega.{arith}
 use mathlib.Core.Logic.{⊎-elim}
 use mathlib.Core.Path.{_≡_, refl, ap, _∙_}
 use Prim.Native.Nat.{_-_, _≤_}
 use Rattle.placing.specs.Words.{carriers}
 use Rattle.placing.proofs.WordLaws as words
-use Rattle.placing.proofs.site.carried.Statement.{statement}
-use Rattle.placing.proofs.site.carried.Tie as tie
+use Rattle.placing.proofs.target.carried.Statement.{statement}
+use Rattle.placing.proofs.target.carried.Tie as tie
 
 abbrev Inv-loop : tie.InvT-loop
 Inv-loop table first count taken₀ i₀ taken i = (i ≤ count) × (taken ≡ carriers table first i) × (taken ≤ i)

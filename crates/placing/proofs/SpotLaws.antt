@@ -11,8 +11,8 @@ use Rattle.keys.specs.declared.KeyWords.{KeyWords}
 use Rattle.rewriting.specs.declared.inserted.Spot.{Spot}
 use Rattle.placing.specs.declared.pass.Passed.{Passed}
 use Rattle.placing.specs.Passing.{Ahead, Reached}
-use Rattle.placing.specs.Placing.{Given, SpotAhead, SpotIs, Placement}
-use Rattle.placing.proofs.Placings.{Found, gap-is, new-is}
+use Rattle.placing.specs.Placing.{Given, SpotAhead, SpotIs, SpotFound}
+use Rattle.placing.proofs.StepLaws.{Found, gap-is, new-is}
 use Rattle.placing.proofs.InsertedTexts.{inserted-is, head-stands}
 use Rattle.placing.proofs.Gaps as gaps
 
@@ -33,10 +33,10 @@ module _ {s t : List ℕ} {n : ℕ} {g : Given s t n} {node place : ℕ} {key va
     abbrev pub spot-ahead : SpotAhead s (x .at) (gap - (node + 1))
     spot-ahead = gaps.spot-ahead (g .value) (g .plan .fits .valid) node site (f .array .at) place s (g .plan .printed) x (r ahead) gap (gap-is f)
 
-    pub placement : WithNodes (capacityOf t) s node place key value (g .value) (f .array .site) (f .pair .keyed .key) (f .pair .scalar)
+    pub spot-found : WithNodes (capacityOf t) s node place key value (g .value) (f .array .site) (f .pair .keyed .key) (f .pair .scalar)
         → {z : Spot} → ((a : SpotAhead s (x .at) (gap - (node + 1))) → SpotIs s (a .head .rest) (a .rest) (x .at) m new z)
-        → Placement s t node place key value z
-    placement enough {z} i =
+        → SpotFound s t node place key value z
+    spot-found enough {z} i =
         let k : Key = f .pair .keyed .key in
         let y : Scalar = f .pair .scalar in
         let is = i spot-ahead in

@@ -1,9 +1,9 @@
--- `placing::site::gap_at` meets its contract. Assumes nothing.
+-- `placing::target::gap_at` meets its contract. Assumes nothing.
 use native.Mathlib.Omega.{arith}
 use mathlib.Core.Path.{ap}
 use Prim.Native.Nat.{_+_}
-use Rattle.placing.proofs.site.gap_at.Statement.{statement}
-use Rattle.placing.proofs.site.gap_at.Tie as tie
+use Rattle.placing.proofs.target.gap_at.Statement.{statement}
+use Rattle.placing.proofs.target.gap_at.Tie as tie
 
 returns : tie.Need-returns
 returns c = c .if1 .taken

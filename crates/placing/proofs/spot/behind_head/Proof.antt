@@ -1,9 +1,9 @@
--- `placing::place::behind_head` meets its contract. Assumes nothing.
+-- `placing::spot::behind_head` meets its contract. Assumes nothing.
 use Rattle.scanner.proofs.Numbers.{found-of, unfit-of}
 use Rattle.placing.proofs.Gaps as gaps
 use borrow.Author.Needs.{needs}
-use Rattle.placing.proofs.place.behind_head.Statement.{statement}
-use Rattle.placing.proofs.place.behind_head.Tie as tie
+use Rattle.placing.proofs.spot.behind_head.Statement.{statement}
+use Rattle.placing.proofs.spot.behind_head.Tie as tie
 
 token-requires : tie.Need-token-requires
 token-requires c κs = search needs

@@ -8,10 +8,10 @@ ghost use mathlib.Core.Path.{_≡_};
 ghost use Prim.Native.Nat.{_+_, _*_, _≤_};
 ghost use lib.ListN.{length};
 ghost use Rattle.format.specs.Table.{width};
-ghost use Rattle.placing.specs.Words.{pairNode, carriers, SiteIs, Walkable, GapBounds, GapIs};
+ghost use Rattle.placing.specs.Words.{pairNode, carriers, TargetIs, Walkable, GapBounds, GapIs};
 
 // What stands at a node: an array with its count of pairs and its ordinal, or something else.
-pub enum Site {
+pub enum Target {
     Array { count: u64, ordinal: u64 },
     Other,
 }
@@ -24,18 +24,18 @@ pub enum Gap {
 }
 
 // 11: "index names no `a` node".
-pub(crate) fn array_at(table: &[u64], nodes: usize, node: usize) -> Site
+pub(crate) fn array_at(table: &[u64], nodes: usize, node: usize) -> Target
     requires { ⌜ nodes * width ≤ length (now table) ⌝ }
-    ensures { λ r. ⌜ SiteIs (now (table .entry)) nodes node r ⌝ }
+    ensures { λ r. ⌜ TargetIs (now (table .entry)) nodes node r ⌝ }
 {
     if nodes <= node {
-        return Site::Other;
+        return Target::Other;
     }
     let k = node * WIDTH;
     if table[k] != ARRAY_TAG {
-        return Site::Other;
+        return Target::Other;
     }
-    Site::Array {
+    Target::Array {
         count: table[k + LINK],
         ordinal: table[k + ORDINAL],
     }

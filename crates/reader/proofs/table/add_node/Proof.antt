@@ -1,9 +1,9 @@
--- `reader::table::place` meets its contract. Assumes nothing.
+-- `reader::table::add_node` meets its contract. Assumes nothing.
 use borrow.Author.Needs.{needs}
 use mathlib.Core.Logic.{inl, inr, ⊎-elim}
-use Rattle.reader.proofs.Placing as placing
-use Rattle.reader.proofs.table.place.Statement.{statement}
-use Rattle.reader.proofs.table.place.Tie as tie
+use Rattle.reader.proofs.AddedNodes as adding
+use Rattle.reader.proofs.table.add_node.Statement.{statement}
+use Rattle.reader.proofs.table.add_node.Tie as tie
 
 add-ordinal : tie.Need-add-ordinal
 add-ordinal c = search needs
@@ -25,9 +25,9 @@ returns c =
     let put = c .before .before in
     let numbered = put .before .before in
     let start = numbered .before .before in
-    placing.placed _ _ _ _ _ (start .args .taken) _ _
+    adding.added _ _ _ _ _ (start .args .taken) _ _
     (⊎-elim (λ p. inl (p .0 .taken, p .1, p .2)) (λ p. inr (p .0 .left, p .1, p .2)) (numbered .if1 .came)) (put .put-node .ensures)
 
-pub place-spec : {M : Type 1} → statement M
-place-spec =
+pub add-node-spec : {M : Type 1} → statement M
+add-node-spec =
     tie.close (tie.spec add-ordinal add-put-node put-node-requires add-t14 same-length returns)

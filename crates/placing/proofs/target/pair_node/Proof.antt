@@ -1,11 +1,11 @@
--- `placing::site::pair_node` meets its contract. Assumes nothing.
+-- `placing::target::pair_node` meets its contract. Assumes nothing.
 use native.Mathlib.Omega.{arith}
 use mathlib.Core.Path.{_≡_, refl, ap, _∙_}
 use Prim.Native.Nat.{_-_, _≤_}
 use Rattle.placing.specs.Words.{pairNode}
 use Rattle.placing.proofs.WordLaws as words
-use Rattle.placing.proofs.site.pair_node.Statement.{statement}
-use Rattle.placing.proofs.site.pair_node.Tie as tie
+use Rattle.placing.proofs.target.pair_node.Statement.{statement}
+use Rattle.placing.proofs.target.pair_node.Tie as tie
 
 abbrev Inv-loop : tie.InvT-loop
 Inv-loop table first place node₀ q₀ node q = (q ≤ place) × (node ≡ pairNode table first q)

@@ -1,52 +1,52 @@
--- `placing::place::place` meets its contract. Assumes nothing.
+-- `placing::spot::find_spot` meets its contract. Assumes nothing.
 use native.Mathlib.Omega.{arith}
 use mathlib.Core.Path.{subst}
-use Rattle.placing.specs.Words.{SiteIs, BeforeIs, GapIs}
+use Rattle.placing.specs.Words.{TargetIs, BeforeIs, GapIs}
 use Rattle.placing.specs.PairTexts.{TextsAre}
 use Rattle.placing.specs.Checks.{CheckIs}
-use Rattle.placing.proofs.Placings as placings
-use Rattle.placing.proofs.Placements as placements
+use Rattle.placing.proofs.StepLaws as steps
+use Rattle.placing.proofs.SpotLaws as spots
 use borrow.Author.Needs.{needs}
-use Rattle.placing.proofs.place.place.Statement.{statement}
-use Rattle.placing.proofs.place.place.Tie as tie
+use Rattle.placing.proofs.spot.find_spot.Statement.{statement}
+use Rattle.placing.proofs.spot.find_spot.Tie as tie
 
 -- ---- what is known where the array is told, the gap in it, the texts of the pair, and that the key is new
 
-module _ (c : tie.After-site) where
+module _ (c : tie.After-target) where
   abbrev start : tie.Start
   start = c .before .before .before .before .before .before .before
 
-  array : placings.Here (start .pre) (start .args .array-node) (start .args .pair-index) (start .args .key .now) (start .args .value .now)
-      (c .site .given .0 .0) (c .site .given .0 .1 .0)
-  array = placings.here _ _ _ _ _ (subst (SiteIs _ _ _) (c .site .given .1) (c .before .before .array-at .ensures))
+  array : steps.Here (start .pre) (start .args .array-node) (start .args .pair-index) (start .args .key .now) (start .args .value .now)
+      (c .target .given .0 .0) (c .target .given .0 .1 .0)
+  array = steps.here _ _ _ _ _ (subst (TargetIs _ _ _) (c .target .given .1) (c .before .before .array-at .ensures))
 
 module _ (c : tie.After-gap) where
-  abbrev site-told : tie.After-site
-  site-told = c .before .before .before .before
+  abbrev target-told : tie.After-target
+  target-told = c .before .before .before .before
 
-  gap : BeforeIs (start site-told .args .table .now) (start site-told .args .array-node) (site-told .site .given .0 .0) (site-told .site .given .0 .1 .0)
-      (start site-told .args .pair-index) (c .gap .given .0 .0) (c .gap .given .0 .1 .0)
+  gap : BeforeIs (start target-told .args .table .now) (start target-told .args .array-node) (target-told .target .given .0 .0) (target-told .target .given .0 .1 .0)
+      (start target-told .args .pair-index) (c .gap .given .0 .0) (c .gap .given .0 .1 .0)
   gap = subst (GapIs _ _ _ _ _) (c .gap .given .1) (c .before .before .gap-at .ensures)
 
 module _ (c : tie.After-fit) where
   abbrev gap-told : tie.After-gap
   gap-told = c .before .before .before .before
 
-  abbrev site : tie.After-site
-  site = site-told gap-told
+  abbrev site : tie.After-target
+  site = target-told gap-told
 
   abbrev entry : tie.Start
   entry = start site
 
-  found : placings.Found (entry .pre) (entry .args .array-node) (entry .args .pair-index) (entry .args .key .now) (entry .args .value .now)
-      (site .site .given .0 .0) (site .site .given .0 .1 .0) (gap-told .gap .given .0 .0) (gap-told .gap .given .0 .1 .0) (c .fit .given .0 .0)
+  found : steps.Found (entry .pre) (entry .args .array-node) (entry .args .pair-index) (entry .args .key .now) (entry .args .value .now)
+      (site .target .given .0 .0) (site .target .given .0 .1 .0) (gap-told .gap .given .0 .0) (gap-told .gap .given .0 .1 .0) (c .fit .given .0 .0)
   found = record {
     array = array site;
     spot = gap gap-told;
     pair = subst (TextsAre _ _) (c .fit .given .1) (c .before .before .pair-texts .ensures);
   }
 
-fresh : (c : tie.After-enum-told4) → placings.Fresh (found (c .before .before .before .before))
+fresh : (c : tie.After-enum-told4) → steps.Fresh (found (c .before .before .before .before))
 fresh c = subst (CheckIs _) (c .enum-told4 .given .1) (c .before .before .new-key .ensures)
 
 abbrev texts-told : tie.After-pass → tie.After-fit
@@ -55,10 +55,10 @@ texts-told passed = passed .before .before .before .before .before
 -- ---- the needs
 
 array-at-requires : tie.Need-array-at-requires
-array-at-requires c κs = placings.table-room (c .before .before .before .before .pre)
+array-at-requires c κs = steps.table-room (c .before .before .before .before .pre)
 
-enum-known-site : tie.Need-enum-known-site
-enum-known-site c = search needs
+enum-known-target : tie.Need-enum-known-target
+enum-known-target c = search needs
 
 enum-told : tie.Need-enum-told
 enum-told c = search needs
@@ -66,10 +66,10 @@ enum-told c = search needs
 returns : tie.Need-returns
 returns c =
     let start = c .before .before .before .before .before .before .before in
-    placings.refuses-11 (start .pre) _ _ _ _ (subst (SiteIs _ _ _) (c .enum-told .given .1) (c .before .before .array-at .ensures))
+    steps.refuses-11 (start .pre) _ _ _ _ (subst (TargetIs _ _ _) (c .enum-told .given .1) (c .before .before .array-at .ensures))
 
 gap-at-requires : tie.Need-gap-at-requires
-gap-at-requires c κs = placings.bounds (array (c .before))
+gap-at-requires c κs = steps.bounds (array (c .before))
 
 enum-known-gap : tie.Need-enum-known-gap
 enum-known-gap c = search needs
@@ -79,7 +79,7 @@ enum-told-2 c = search needs
 
 returns-2 : tie.Need-returns-2
 returns-2 c =
-    placings.refuses-12 (array (c .before .before .before .before))
+    steps.refuses-12 (array (c .before .before .before .before))
     (subst (GapIs _ _ _ _ _) (c .enum-told2 .given .1) (c .before .before .gap-at .ensures))
 
 pair-texts-requires : tie.Need-pair-texts-requires
@@ -94,14 +94,14 @@ enum-told-3 c = search needs
 returns-3 : tie.Need-returns-3
 returns-3 c =
     let gap-told = c .before .before .before .before in
-    placings.refuses-13 (array (site-told gap-told)) (gap gap-told)
+    steps.refuses-13 (array (target-told gap-told)) (gap gap-told)
     (subst (TextsAre _ _) (c .enum-told3 .given .1) (c .before .before .pair-texts .ensures))
 
 add-first : tie.Need-add-first
-add-first c = omega (arith, placings.node-low (found (c .before)), placings.table-room (entry (c .before) .pre))
+add-first c = omega (arith, steps.node-low (found (c .before)), steps.table-room (entry (c .before) .pre))
 
 new-key-requires : tie.Need-new-key-requires
-new-key-requires c κs = placings.walks (found (c .before))
+new-key-requires c κs = steps.walks (found (c .before))
 
 enum-told-4 : tie.Need-enum-told-4
 enum-told-4 c = search needs
@@ -111,11 +111,11 @@ enum-told-5 c = search needs
 
 returns-4 : tie.Need-returns-4
 returns-4 c =
-    placings.refuses-9 (found (c .before .before .before .before))
+    steps.refuses-9 (found (c .before .before .before .before))
     (subst (CheckIs _) (c .enum-told5 .given .1) (c .before .before .new-key .ensures))
 
 pass-requires : tie.Need-pass-requires
-pass-requires c κs = placements.ahead (found (c .before .before .before .before))
+pass-requires c κs = spots.ahead (found (c .before .before .before .before))
 
 shallow-requires : tie.Need-shallow-requires
 shallow-requires c κs = search needs
@@ -130,7 +130,7 @@ returns-5 : tie.Need-returns-5
 returns-5 c =
     let passed = c .before .before .before in
     let is = found (texts-told passed) in
-    placings.refuses-8 is (fresh (passed .before)) (placements.around-is is (passed .pass .ensures))
+    steps.refuses-8 is (fresh (passed .before)) (spots.around-is is (passed .pass .ensures))
     (subst (CheckIs _) (c .enum-told7 .given .1) (c .before .before .shallow .ensures))
 
 two-more-requires : tie.Need-two-more-requires
@@ -147,17 +147,17 @@ returns-6 c =
     let depth-told = c .before .before .before in
     let passed = depth-told .before .before .before in
     let is = found (texts-told passed) in
-    placings.refuses-7 is (fresh (passed .before)) (placements.around-is is (passed .pass .ensures))
+    steps.refuses-7 is (fresh (passed .before)) (spots.around-is is (passed .pass .ensures))
     (subst (CheckIs _) (depth-told .enum-told6 .given .1) (depth-told .before .before .shallow .ensures))
     (subst (CheckIs _) (c .enum-told9 .given .1) (c .before .before .two-more .ensures))
 
-sub-find-gap : tie.Need-sub-find-gap
-sub-find-gap c = omega (arith, placings.gap-is (found (texts-told (c .before .before .before .before .before .before))))
+sub-spot-at : tie.Need-sub-spot-at
+sub-spot-at c = omega (arith, steps.gap-is (found (texts-told (c .before .before .before .before .before .before))))
 
-find-gap-requires : tie.Need-find-gap-requires
-find-gap-requires c κs =
+spot-at-requires : tie.Need-spot-at-requires
+spot-at-requires c κs =
     let passed = c .before .before .before .before .before .before in
-    placements.spot-ahead (found (texts-told passed)) (passed .pass .ensures)
+    spots.spot-ahead (found (texts-told passed)) (passed .pass .ensures)
 
 returns-7 : tie.Need-returns-7
 returns-7 c =
@@ -165,18 +165,18 @@ returns-7 c =
     let depth-told = room-told .before .before .before in
     let passed = depth-told .before .before .before in
     let is = found (texts-told passed) in
-    placements.placement is (passed .pass .ensures)
-    (placings.with-nodes is (fresh (passed .before)) (placements.around-is is (passed .pass .ensures))
+    spots.spot-found is (passed .pass .ensures)
+    (steps.with-nodes is (fresh (passed .before)) (spots.around-is is (passed .pass .ensures))
     (subst (CheckIs _) (depth-told .enum-told6 .given .1) (depth-told .before .before .shallow .ensures))
     (subst (CheckIs _) (room-told .enum-told8 .given .1) (room-told .before .before .two-more .ensures)))
-    (c .find-gap .ensures)
+    (c .spot-at .ensures)
 
-pub place-spec : {M : Type 1} → statement M
-place-spec =
+pub find-spot-spec : {M : Type 1} → statement M
+find-spot-spec =
     tie.close
     (tie.spec
     array-at-requires
-    enum-known-site
+    enum-known-target
     enum-told
     returns
     gap-at-requires
@@ -201,6 +201,6 @@ place-spec =
     enum-told-8
     enum-told-9
     returns-6
-    sub-find-gap
-    find-gap-requires
+    sub-spot-at
+    spot-at-requires
     returns-7)

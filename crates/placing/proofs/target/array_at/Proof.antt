@@ -1,10 +1,10 @@
--- `placing::site::array_at` meets its contract. Assumes nothing.
+-- `placing::target::array_at` meets its contract. Assumes nothing.
 use native.Mathlib.Omega.{arith}
 use mathlib.Core.Path.{refl, sym, _∙_}
 use Rattle.placing.proofs.WordLaws as words
 use borrow.Author.Needs.{needs}
-use Rattle.placing.proofs.site.array_at.Statement.{statement}
-use Rattle.placing.proofs.site.array_at.Tie as tie
+use Rattle.placing.proofs.target.array_at.Statement.{statement}
+use Rattle.placing.proofs.target.array_at.Tie as tie
 
 returns : tie.Need-returns
 returns c = search needs

@@ -1,8 +1,8 @@
--- `placing::place::find_gap` meets its contract. Assumes nothing.
+-- `placing::spot::spot_at` meets its contract. Assumes nothing.
 use mathlib.Core.Path.{refl}
 use Rattle.placing.proofs.Gaps as gaps
-use Rattle.placing.proofs.place.find_gap.Statement.{statement}
-use Rattle.placing.proofs.place.find_gap.Tie as tie
+use Rattle.placing.proofs.spot.spot_at.Statement.{statement}
+use Rattle.placing.proofs.spot.spot_at.Tie as tie
 
 behind-head-requires : tie.Need-behind-head-requires
 behind-head-requires c κs = c .before .pre .head
@@ -19,5 +19,5 @@ returns c = λ a.
     let gap = gaps.behind-gap (c .pass .ensures (a .pairs _ (behind .here) (behind .inside))) (a .same _ (behind .here) (behind .inside)) in
     record { tag = refl; first = behind; gap = gap; counted = refl; taken = refl }
 
-pub find-gap-spec : {M : Type 1} → statement M
-find-gap-spec = tie.close (tie.spec behind-head-requires pass-requires returns)
+pub spot-at-spec : {M : Type 1} → statement M
+spot-at-spec = tie.close (tie.spec behind-head-requires pass-requires returns)
