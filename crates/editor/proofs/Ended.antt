@@ -4,7 +4,7 @@ use native.Mathlib.Nat.{zero-add}
 use native.Mathlib.Omega.{arith}
 use mathlib.Core.Path.{_≡_, refl, sym, ap, ap₂, _∙_, subst}
 use mathlib.Core.List.{List, [], _∷_, _++_}
-use mathlib.Core.Bool.{Bool, true, false}
+use mathlib.Core.Bool.{Bool, true, false, true≢false}
 use lib.Dec.{leb, leb→le, not-T}
 use lib.ListN.{length, take, drop, replicate, drop-of-length-le}
 use lib.Seq.{sets-eq, length-sets, take-append-seam}
@@ -39,9 +39,6 @@ use Rattle.editor.specs.declared.Writing.{Writing}
 use Rattle.editor.proofs.Canonicalizing.{by-value}
 
 -- ---- 14
-
-pub differ : true ≡ false → ⊥
-differ e = let z : _≡_ {A = ℕ} 0 1 = cc in omega arith
 
 pub room-short : (room length : ℕ) → room < length → fitsIn room length ≡ false
 room-short room length h = rw (lt-leb length room h)
@@ -148,7 +145,7 @@ spared-room source e key value (short h) z f = short-room source e key value h z
 module _ (source : List ℕ) (e : Edit) (key value : List ℕ) where
   -- what is not edited at all was not measured
   pub unfit-roomed : {out part : List ℕ} → Untouched source e key value [] part → Roomed source e key value out (part ++ out) false
-  unfit-roomed {out} k = record { same = ap (λ (p : List ℕ). p ++ out) (k .same); room = λ w. absurd (differ (sym w ∙ k .unfit)) }
+  unfit-roomed {out} k = record { same = ap (λ (p : List ℕ). p ++ out) (k .same); room = λ w. absurd (true≢false (sym w ∙ k .unfit)) }
 
   pub measured-roomed : (out : List ℕ) {n : ℕ} {part : List ℕ} → Puts (editedText source e key value) 0 [] n part → {r : Bool} → r ≡ fitsIn (length out) n
       → Roomed source e key value out (part ++ out) r
@@ -184,7 +181,7 @@ module _ {source : List ℕ} {e : Edit} {key value : List ℕ} (z : EditFits sou
       by : Order sourceLimit (length key) → Order sourceLimit (length value) → text ≡ refused 14 0
       by (below h) j = too-long (z .key) h
       by (above h) (below i) = too-long (z .value) i
-      by (above h) (above i) = absurd (differ (sym (by-spot (length source) e (length key) (length value) (z .short) h i ∙ z .inside) ∙ g))
+      by (above h) (above i) = absurd (true≢false (sym (by-spot (length source) e (length key) (length value) (z .short) h i ∙ z .inside) ∙ g))
 
   pub full-14 : (writable (length source) e (length key) (length value) ≡ true → false ≡ fitsIn room (length (editedText source e key value)))
       → text ≡ refused 14 0

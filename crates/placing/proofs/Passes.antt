@@ -3,7 +3,7 @@ use Prim.Native.Nat.{ℕ, _+_, _-_, _≤_, _<_}
 use native.Mathlib.Nat.{add-zero}
 use native.Mathlib.Omega.{arith}
 use mathlib.Core.Path.{_≡_, refl, sym, ap, _∙_}
-use mathlib.Core.Bool.{true, false}
+use mathlib.Core.Bool.{true, false, true≢false}
 use mathlib.Core.Logic.{_⊎_, inl, inr, ⊎-elim}
 use mathlib.Core.List.{List, [], _∷_}
 use lib.Dec.{eqb}
@@ -53,9 +53,6 @@ module _ (b left o c : ℕ) where
   pub goes-brace : left ≤ 0 → c < o → eqb b 125 ≡ goesOn b left o c
   goes-brace h k = sym (rw (le-ltb 0 left h, lt-ltb c o k))
 
-pub differ : true ≡ false → ⊥
-differ e = let z : _≡_ {A = ℕ} 0 1 = cc in omega arith
-
 module _ (b left o c : ℕ) where
   -- where no node is left, a brace stands there, of what was opened
   goes-true : goesOn b left o c ≡ true → left ≤ 0 → (c < o) × (b ≡ 125)
@@ -63,15 +60,15 @@ module _ (b left o c : ℕ) where
     where
       by : Order c o → (c < o) × (b ≡ 125)
       by (below k) = (k, eqb-true b 125 (goes-brace b left o c h k ∙ e))
-      by (above k) = absurd (differ (sym (stops-closed b left o c h k ∙ e)))
+      by (above k) = absurd (true≢false (sym (stops-closed b left o c h k ∙ e)))
 
   -- and where it stops, neither
   goes-false : goesOn b left o c ≡ false → (left ≤ 0) × (c < o → b ≡ 125 → ⊥)
   goes-false e = by (order 0 left)
     where
       by : Order 0 left → (left ≤ 0) × (c < o → b ≡ 125 → ⊥)
-      by (below h) = absurd (differ (goes-node b left o c h ∙ e))
-      by (above h) = (h, λ k f. differ (sym (eq-eqb b 125 f) ∙ goes-brace b left o c h k ∙ e))
+      by (below h) = absurd (true≢false (goes-node b left o c h ∙ e))
+      by (above h) = (h, λ k f. true≢false (sym (eq-eqb b 125 f) ∙ goes-brace b left o c h k ∙ e))
 
 -- ---- what is left
 

@@ -2,7 +2,7 @@
 use Prim.Native.Nat.{ℕ, _+_, _≤_, _<_}
 use native.Mathlib.Omega.{arith}
 use mathlib.Core.Path.{_≡_, refl, sym, ap, _∙_}
-use mathlib.Core.Bool.{true, false}
+use mathlib.Core.Bool.{true, false, true≢false}
 use mathlib.Core.List.{List, [], _∷_}
 use lib.ListN.{length, getD, take, drop, length-drop, drop-of-length-le}
 use lib.Seq.{drop-cons}
@@ -22,7 +22,6 @@ use Rattle.keys.specs.declared.KeyWords.{KeyWords}
 use Rattle.tokens.specs.Tokens.{keyScalar}
 use Rattle.tokens.proofs.TokenRead.{scalar-read}
 use Rattle.placing.specs.PairTexts.{IsScalar, Exact, IsKey, ExactKey, ArePair}
-use Rattle.placing.proofs.Passes.{differ}
 
 -- ---- exactly one
 
@@ -85,14 +84,14 @@ module _ (s : List ℕ) where
   key-tag (stringKey q) t = ap (λ (u : List ℕ). mayBeKey (getD u 0 0)) t
 
   pub no-key-tag : mayBeKey (getD s 0 0) ≡ false → ExactKey s (Scan.Not 13)
-  no-key-tag e k f t = differ (sym (key-tag k t) ∙ e)
+  no-key-tag e k f t = true≢false (sym (key-tag k t) ∙ e)
 
   -- by what the scan for a scalar found
   is-key : (x : Text) (y : Scalar) → mayBeKey (getD s 0 0) ≡ true → s ≡ writeScalar y [] → ScalarFits y → x ≡ scalarTold 1 y (x .next)
       → IsKey s (record { tag = getD s 0 0; content = x .content; size = x .size })
-  is-key x null m t f e = absurd (differ (sym m ∙ ap (λ (u : List ℕ). mayBeKey (getD u 0 0)) t))
-  is-key x (bool b) m t f e = absurd (differ (sym m ∙ ap (λ (u : List ℕ). mayBeKey (getD u 0 0)) t))
-  is-key x (float g) m t f e = absurd (differ (sym m ∙ ap (λ (u : List ℕ). mayBeKey (getD u 0 0)) t))
+  is-key x null m t f e = absurd (true≢false (sym m ∙ ap (λ (u : List ℕ). mayBeKey (getD u 0 0)) t))
+  is-key x (bool b) m t f e = absurd (true≢false (sym m ∙ ap (λ (u : List ℕ). mayBeKey (getD u 0 0)) t))
+  is-key x (float g) m t f e = absurd (true≢false (sym m ∙ ap (λ (u : List ℕ). mayBeKey (getD u 0 0)) t))
   is-key x (int y) m t f e = record {
     key = intKey y;
     written = t;

@@ -2,7 +2,7 @@
 use Prim.Native.Nat.{ℕ, _+_, _*_, _≤_}
 use native.Mathlib.Omega.{arith}
 use mathlib.Core.Path.{_≡_, refl, sym, ap, _∙_, subst}
-use mathlib.Core.Bool.{Bool, true, false, _&&_}
+use mathlib.Core.Bool.{Bool, true, false, true≢false, _&&_}
 use mathlib.Core.List.{List}
 use lib.Dec.{leb, leb→le}
 use lib.ListN.{length}
@@ -114,10 +114,7 @@ module _ {s : List ℕ} {e : Edit} {key value out out′ : List ℕ} where
   pub written-fit : {r : Edited} → Edits s e key value out out′ r → writable (length s) e (length key) (length value) ≡ true
       → (n : ℕ) × Put s e key value out out′ n
   written-fit (written m f p) i = (m, record { fit = f; text = p })
-  written-fit (unfit f o) i = absurd (differ (sym i ∙ f))
-    where
-      differ : true ≡ false → ⊥
-      differ j = let z : _≡_ {A = ℕ} 0 1 = cc in omega arith
+  written-fit (unfit f o) i = absurd (true≢false (sym i ∙ f))
 
   pub unfit-of : {r : Edited} → Edits s e key value out out′ r → r ≡ Edited.Unfit → Untouched s e key value out out′
   unfit-of (written m f p) i = absurd (never i)

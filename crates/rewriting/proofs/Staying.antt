@@ -3,7 +3,7 @@ use Prim.Native.Nat.{ℕ, zero, suc, _+_, _≤_, _<_}
 use native.Mathlib.Omega.{arith}
 use mathlib.Core.Path.{_≡_, refl, sym, ap, _∙_, subst}
 use mathlib.Core.Logic.{_⊎_, inl, inr, ⊎-elim}
-use mathlib.Core.Bool.{Bool, true, false}
+use mathlib.Core.Bool.{Bool, true, false, true≢false, false≢true}
 use mathlib.Core.List.{List, [], _∷_, _++_}
 use lib.Dec.{T}
 use lib.ListN.{length, getD, drop, length-drop}
@@ -139,12 +139,9 @@ module _ (s : List ℕ) (at : ℕ) (x : Text) where
 
 -- ---- whether it stays
 
-differ : true ≡ false → ⊥
-differ e = let z : _≡_ {A = ℕ} 0 1 = cc in omega arith
-
 module _ {c : Change} (s : List ℕ) (at : ℕ) (x : Text) where
   does-stay : respelledText c s at x ≡ slice at (x .next) s → Stays c s at x true
-  does-stay e = record { kept = λ i. e; changes = λ i. absurd (differ i) }
+  does-stay e = record { kept = λ i. e; changes = λ i. absurd (true≢false i) }
 
   -- canonical text: nothing is asked of a token that is written again
   rewritten-whatever : c ≡ Change.Canonical → Changes c s at x
@@ -157,7 +154,7 @@ module _ {c : Change} (s : List ℕ) (at : ℕ) (x : Text) where
   unnumbered-stays e p = does-stay (as-canonical s at x e ∙ unnumbered-text s at x p)
 
   pub object-changes : c ≡ Change.Canonical → Stays c s at x false
-  object-changes e = record { kept = λ i. absurd (differ (sym i)); changes = λ i. rewritten-whatever e }
+  object-changes e = record { kept = λ i. absurd (false≢true i); changes = λ i. rewritten-whatever e }
 
   pub number-stays : Found readToken (tokenTold at) s at x → c ≡ Change.Canonical → (getD s at 0 ≡ tag Kind.object → ⊥) → (r : Bool)
       → (r ≡ true → ShortestFront (getD s (at + 2) 0) (getD s (at + 3) 0)) → Stays c s at x r
@@ -176,7 +173,7 @@ module _ {c : Change} (s : List ℕ) (at : ℕ) (x : Text) where
     reference-stays o h = does-stay (as-raised s at x e ∙ spelled-low k s at x o h)
 
     pub reference-changes : ReferenceTag (getD s at 0) → k ≤ x .content → Stays c s at x false
-    reference-changes o h = record { kept = λ i. absurd (differ (sym i)); changes = λ i. record { raises = λ m j. (o, omega (arith, h, one (sym e ∙ j))) } }
+    reference-changes o h = record { kept = λ i. absurd (false≢true i); changes = λ i. record { raises = λ m j. (o, omega (arith, h, one (sym e ∙ j))) } }
       where
         one : {m : ℕ} → Change.Raise k ≡ Change.Raise m → k ≡ m
         one j = cc

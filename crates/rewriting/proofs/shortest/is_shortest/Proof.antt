@@ -1,8 +1,5 @@
 -- `rewriting::shortest::is_shortest` meets its contract. Assumes nothing.
-use native.Mathlib.Omega.{arith}
-use mathlib.Core.Path.{_≡_}
-use mathlib.Core.Bool.{true, false}
-use Prim.Native.Nat.{ℕ}
+use mathlib.Core.Bool.{false≢true}
 use borrow.Author.Tests.{leb-true}
 use Rattle.rewriting.specs.Shortest.{digit, alone, minus}
 use Rattle.rewriting.proofs.shortest.is_shortest.Statement.{statement}
@@ -17,11 +14,8 @@ returns-2 c = λ e. alone (c .if2 .taken)
 returns-3 : tie.Need-returns-3
 returns-3 c = λ e. minus (c .if3 .taken) (leb-true _ _ e)
 
-differ : false ≡ true → ⊥
-differ e = let z : _≡_ {A = ℕ} 0 1 = cc in omega arith
-
 returns-4 : tie.Need-returns-4
-returns-4 c = λ e. absurd (differ e)
+returns-4 c = λ e. absurd (false≢true e)
 
 pub is-shortest-spec : {M : Type 1} → statement M
 is-shortest-spec = tie.close (tie.spec returns returns-2 returns-3 returns-4)
