@@ -33,6 +33,29 @@ words n = n .tag ∷ n .ordinal ∷ n .content ∷ n .size ∷ n .link ∷ n .en
 abbrev pub width : ℕ
 width = 6
 
+-- the words of a node, by their index in it, as code has them (src/table.rt)
+abbrev pub tagWord : ℕ
+tagWord = 0
+
+abbrev pub ordinalWord : ℕ
+ordinalWord = 1
+
+abbrev pub contentWord : ℕ
+contentWord = 2
+
+abbrev pub sizeWord : ℕ
+sizeWord = 3
+
+abbrev pub linkWord : ℕ
+linkWord = 4
+
+abbrev pub endWord : ℕ
+endWord = 5
+
+-- from a key's node on: the end of the value's node behind it is the pair's
+abbrev pub pairEnd : ℕ
+pairEnd = width + endWord
+
 -- a word of a node, by its index in it
 abbrev pub wordAt : List ℕ → (node k : ℕ) → ℕ
 wordAt t node k = getD t (node * width + k) 0

@@ -10,7 +10,7 @@ use Rattle.format.specs.Kind.{Kind, tag}
 use Rattle.format.specs.Syntax.{intKey, stringKey, Key}
 use Rattle.format.specs.Keys.{integer}
 use Rattle.format.specs.Fits.{KeyFits}
-use Rattle.format.specs.Table.{word, wordAt}
+use Rattle.format.specs.Table.{word, wordAt, tagWord, contentWord, sizeWord}
 use Rattle.format.specs.Reading.{capacityOf}
 use Rattle.keys.specs.declared.KeyWords.{KeyWords}
 
@@ -20,7 +20,7 @@ textOf s o n = elim (leb o (length s) && leb n (length s - o)) [ true ↦ take n
 
 -- words 0, 2 and 3 of a node
 abbrev pub keyWordsAt : List ℕ → (node : ℕ) → KeyWords
-keyWordsAt t i = record { tag = wordAt t i 0; content = wordAt t i 2; size = wordAt t i 3 }
+keyWordsAt t i = record { tag = wordAt t i tagWord; content = wordAt t i contentWord; size = wordAt t i sizeWord }
 
 -- those of a node that the table has room for, or zeros
 unfoldable pub keyWordsIn : List ℕ → (node : ℕ) → KeyWords

@@ -14,7 +14,7 @@ use Rattle.format.specs.Syntax.{intKey, stringKey, array, Key, Container, Value
 use Rattle.format.specs.Keys.{hasKey}
 use Rattle.format.specs.Fits.{KeyFits, SoundIn, Valid}
 use Rattle.format.specs.Answer.{ok}
-use Rattle.format.specs.Table.{Node, words, width, wordAt, flat, textOffset, keyNode, branchNode, table, tableIn, targetOf, tableOf, valueOffset, nextOffset}
+use Rattle.format.specs.Table.{Node, words, width, wordAt, endWord, ordinalWord, contentWord, sizeWord, linkWord, pairEnd, flat, textOffset, keyNode, branchNode, table, tableIn, targetOf, tableOf, valueOffset, nextOffset}
 use Rattle.format.specs.Shows.{ordinalsOf, upFrom, nodeAt}
 use Rattle.format.specs.Edit.{keys, ordinalsUpto, ordinalsWithin, ordinalsBefore, newOrdinal}
 use Rattle.format.specs.Writing.{Site, arrayAt}
@@ -110,18 +110,18 @@ upto-rows to (suc p) (pair k v ps) o i n =
 
 -- ---- the words of any table
 module _ (t : List ℕ) where
-  pair-shift : (i q : ℕ) → pairNode t i (suc q) ≡ pairNode t (wordAt t i (width + 5)) q
+  pair-shift : (i q : ℕ) → pairNode t i (suc q) ≡ pairNode t (wordAt t i pairEnd) q
   pair-shift i zero = refl
-  pair-shift i (suc q) = ap (λ (m : ℕ). wordAt t m (width + 5)) (pair-shift i q)
+  pair-shift i (suc q) = ap (λ (m : ℕ). wordAt t m pairEnd) (pair-shift i q)
 
-  carriers-shift : (i n : ℕ) → carriers t i (suc n) ≡ one (not (eqb (wordAt t i 1) 0)) + carriers t (suc i) n
+  carriers-shift : (i n : ℕ) → carriers t i (suc n) ≡ one (not (eqb (wordAt t i ordinalWord) 0)) + carriers t (suc i) n
   carriers-shift i zero =
       let e : i + 0 ≡ i = omega arith in
-      let f = ap (λ (m : ℕ). one (not (eqb (wordAt t m 1) 0))) e in
+      let f = ap (λ (m : ℕ). one (not (eqb (wordAt t m ordinalWord) 0))) e in
       omega arith
   carriers-shift i (suc n) =
       let e : i + suc n ≡ suc i + n = omega arith in
-      let f = ap (λ (m : ℕ). one (not (eqb (wordAt t m 1) 0))) e in
+      let f = ap (λ (m : ℕ). one (not (eqb (wordAt t m ordinalWord) 0))) e in
       let g = carriers-shift i n in
       omega arith
 
@@ -141,9 +141,9 @@ module _ (v : Value) (t rest : List ℕ) (e : t ≡ flat (tableOf v) ++ rest) wh
 
   -- ---- pairs
   next-word : (o i n : ℕ) (k : Key) (u : Value) (ps : Values) → In o i n (pair k u ps) → i + nodesIn (pair k u ps) ≤ nodes v
-      → wordAt t i (width + 5) ≡ suc (i + nodes u)
+      → wordAt t i pairEnd ≡ suc (i + nodes u)
   next-word o i n k u ps g h =
-      let f : i * width + (width + 5) ≡ suc i * width + 5 = omega arith in
+      let f : i * width + pairEnd ≡ suc i * width + endWord = omega arith in
       ap (λ (m : ℕ). getD t m 0) f ∙ word-of (suc i) 5 (omega (arith, nodes-some u)) (omega arith)
       ∙ end-is (tableOf v) (targetOf v) u (valueOffset o k) (suc i) n (first-in (tableOf v) (targetOf v) o i n k u ps g) ∙ omega arith
 
@@ -194,8 +194,8 @@ module _ (v : Value) (t rest : List ℕ) (e : t ≡ flat (tableOf v) ++ rest) wh
       fits = b;
     }
     key-held (stringKey q) o i r h f b d =
-        let c : wordAt t i 2 ≡ textOffset o q = row-word i 2 (keyNode o i (stringKey q)) h (omega arith) f in
-        let z : wordAt t i 3 ≡ length (q .text) = row-word i 3 (keyNode o i (stringKey q)) h (omega arith) f in
+        let c : wordAt t i contentWord ≡ textOffset o q = row-word i 2 (keyNode o i (stringKey q)) h (omega arith) f in
+        let z : wordAt t i sizeWord ≡ length (q .text) = row-word i 3 (keyNode o i (stringKey q)) h (omega arith) f in
         let stands = quoted-text source o 115 q (59 ∷ r) d in
         record {
           is = row-word i 0 (keyNode o i (stringKey q)) h (omega arith) f;
@@ -232,10 +232,10 @@ module _ (v : Value) (t rest : List ℕ) (e : t ≡ flat (tableOf v) ++ rest) wh
     array-pairs : In (in-plan v node s a .offset) (suc node) (suc (in-plan v node s a .ordinal)) (s .pairs)
     array-pairs = record { rest = in-plan v node s a .rest; here = at-next (tableOf v) node _ _ (in-plan v node s a .rows) }
 
-    pub array-count : wordAt t node 4 ≡ count (s .pairs)
+    pub array-count : wordAt t node linkWord ≡ count (s .pairs)
     array-count = array-word 4 (omega arith)
 
-    pub array-ordinal : wordAt t node 1 ≡ in-plan v node s a .ordinal
+    pub array-ordinal : wordAt t node ordinalWord ≡ in-plan v node s a .ordinal
     array-ordinal = array-word 1 (omega arith)
 
     -- the pairs before a place have so many nodes

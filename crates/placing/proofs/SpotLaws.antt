@@ -12,12 +12,12 @@ use Rattle.rewriting.specs.declared.inserted.Spot.{Spot}
 use Rattle.placing.specs.declared.pass.Passed.{Passed}
 use Rattle.placing.specs.Passing.{Ahead, Reached}
 use Rattle.placing.specs.Placing.{Given, SpotAhead, SpotIs, SpotFound}
-use Rattle.placing.proofs.StepLaws.{Found, gap-is, new-is}
+use Rattle.placing.proofs.StepLaws.{GapFound, gap-is, new-is}
 use Rattle.placing.proofs.InsertedTexts.{inserted-is, head-stands}
 use Rattle.placing.proofs.Gaps as gaps
 
 module _ {s t : List ℕ} {n : ℕ} {g : Given s t n} {node place : ℕ} {key value : List ℕ} {m o gap new : ℕ} {w : KeyWords}
-    (f : Found g node place key value m o gap new w) where
+    (f : GapFound g node place key value m o gap new w) where
   abbrev site : Site
   site = f .array .site
 

@@ -15,7 +15,7 @@ use Rattle.format.specs.Keys.{hasKey}
 use Rattle.format.specs.Limits.{depthLimit}
 use Rattle.format.specs.Fits.{KeyFits, ScalarFits}
 use Rattle.format.specs.Answer.{Answer, ok, refused}
-use Rattle.format.specs.Table.{Node, width, wordAt, flat, tableOf}
+use Rattle.format.specs.Table.{Node, width, wordAt, tagWord, flat, tableOf}
 use Rattle.format.specs.Shows.{nodeAt}
 use Rattle.format.specs.Reading.{capacityOf}
 use Rattle.format.specs.Edit.{keys, newOrdinal}
@@ -38,18 +38,18 @@ module _ {s t : List ℕ} {n : ℕ} (g : Given s t n) where
       omega (arith, g .counted, ap length (g .table), length-append (flat rows) (g .rest), flat-length rows, tableOf-length (g .value))
 
   module _ (node place : ℕ) (key value : List ℕ) where
-    abbrev pub Refuses : ℕ → Type 0
-    Refuses c = (room : ℕ) → insertBytes (capacityOf t) room s node place key value ≡ refused c 0
+    abbrev pub RefusedWith : ℕ → Type 0
+    RefusedWith c = (room : ℕ) → insertBytes (capacityOf t) room s node place key value ≡ refused c 0
 
-    refuses : (c : ℕ) → ((room : ℕ) → RefusedRow (capacityOf t) s node place key value room c 0) → Refuses c
+    refuses : (c : ℕ) → ((room : ℕ) → RefusedRow (capacityOf t) s node place key value room c 0) → RefusedWith c
     refuses c f room = row-refused (capacityOf t) s node place key value room c 0 (f room)
 
     -- ---- 11
 
-    tag-is : node < n → nodeAt (tableOf (g .value)) node .tag ≡ tag Kind.array → wordAt t node 0 ≡ tag Kind.array
+    tag-is : node < n → nodeAt (tableOf (g .value)) node .tag ≡ tag Kind.array → wordAt t node tagWord ≡ tag Kind.array
     tag-is h e = words.word-of (g .value) t (g .rest) (g .table) node 0 (omega (arith, g .counted)) (omega arith) ∙ e
 
-    pub refuses-11 : (node < n → wordAt t node 0 ≡ tag Kind.array → ⊥) → Refuses 11
+    pub refuses-11 : (node < n → wordAt t node tagWord ≡ tag Kind.array → ⊥) → RefusedWith 11
     refuses-11 f = refuses 11 (λ room. noArray (g .value) (g .plan) (λ h e. let k : node < n = omega (arith, g .counted) in f k (tag-is k e)))
 
     -- the array, with its count and its ordinal
@@ -62,7 +62,7 @@ module _ {s t : List ℕ} {n : ℕ} (g : Given s t n) where
     pub here : {m o : ℕ} → ArrayIs t n node m o → Here m o
     here {m} {o} a = by (arrayAt node (g .value)) refl
       where
-        row : (r : Node) → nodeAt (tableOf (g .value)) node ≡ r → wordAt t node 0 ≡ r .tag
+        row : (r : Node) → nodeAt (tableOf (g .value)) node ≡ r → wordAt t node tagWord ≡ r .tag
         row r e =
             words.word-of (g .value) t (g .rest) (g .table) node 0 (omega (arith, g .counted, a .inside)) (omega arith)
             ∙ ap (λ (x : Node). x .tag) e
@@ -92,7 +92,7 @@ module _ {s t : List ℕ} {n : ℕ} {g : Given s t n} {node place : ℕ} {key va
       (subst (λ (c : ℕ). GapBounds t node (count (h .site .pairs)) c place) (sym (h .numbered))
       (words.gap-bounds v t (g .rest) (g .table) node (h .site) (h .at) place))
 
-  pub refuses-12 : m < place → Refuses g node place key value 12
+  pub refuses-12 : m < place → RefusedWith g node place key value 12
   refuses-12 f = refuses g node place key value 12 (λ room. noPlace v (h .site) at-array (omega (arith, f, h .counted)))
 
   module _ {gap new : ℕ} (b : BeforeIs t node m o place gap new) where
@@ -105,17 +105,17 @@ module _ {s t : List ℕ} {n : ℕ} {g : Given s t n} {node place : ℕ} {key va
     -- ---- 13
 
     pub refuses-13 : ((k : Key) (x : Scalar) → KeyFits k → key ≡ writeKey k [] → ScalarFits x → value ≡ writeScalar x [] → ⊥)
-        → Refuses g node place key value 13
+        → RefusedWith g node place key value 13
     refuses-13 f = refuses g node place key value 13 (λ room. unfit v (h .site) at-place f)
 
 -- the array, the gap in it and the texts of the pair
-pub record Found {s t : List ℕ} {n : ℕ} (g : Given s t n) (node place : ℕ) (key value : List ℕ) (m o gap new : ℕ) (w : KeyWords) : Type 0 where
+pub record GapFound {s t : List ℕ} {n : ℕ} (g : Given s t n) (node place : ℕ) (key value : List ℕ) (m o gap new : ℕ) (w : KeyWords) : Type 0 where
   pub array : Here g node place key value m o
   pub spot : BeforeIs t node m o place gap new
   pub pair : ArePair key value w
 
 module _ {s t : List ℕ} {n : ℕ} {g : Given s t n} {node place : ℕ} {key value : List ℕ} {m o gap new : ℕ} {w : KeyWords}
-    (f : Found g node place key value m o gap new w) where
+    (f : GapFound g node place key value m o gap new w) where
   abbrev site : Site
   site = f .array .site
 
@@ -158,7 +158,7 @@ module _ {s t : List ℕ} {n : ℕ} {g : Given s t n} {node place : ℕ} {key va
       ap (keyAmong s key w t (node + 1)) (f .array .counted)
       ∙ words.key-among (g .value) t (g .rest) (g .table) node site (f .array .at) (g .plan .fits .valid) s (g .plan .printed) key w k (f .pair .keyed .held)
 
-  pub refuses-9 : not (keyAmong s key w t (node + 1) m) ≡ false → Refuses g node place key value 9
+  pub refuses-9 : not (keyAmong s key w t (node + 1) m) ≡ false → RefusedWith g node place key value 9
   refuses-9 e =
       let q = equal-key k (keys qs) (T-of (sym among ∙ not-false _ e)) in
       refuses g node place key value 9 (λ room. sameKeyed (g .value) site k x with-pair (q .0) (q .1) (q .2))
@@ -173,7 +173,7 @@ module _ {s t : List ℕ} {n : ℕ} {g : Given s t n} {node place : ℕ} {key va
     -- ---- 8
 
     module _ {around : ℕ} (a : around ≡ length (site .path)) where
-      pub refuses-8 : ltb (suc around) depthLimit ≡ false → Refuses g node place key value 8
+      pub refuses-8 : ltb (suc around) depthLimit ≡ false → RefusedWith g node place key value 8
       refuses-8 d =
           let deep = site-depth (g .value) node site (g .plan .fits .valid) (f .array .at) in
           refuses g node place key value 8 (λ room. tooDeep (g .value) site k x with-new-key (omega (arith, a, ltb-false (suc around) depthLimit d, deep)))
@@ -184,7 +184,7 @@ module _ {s t : List ℕ} {n : ℕ} {g : Given s t n} {node place : ℕ} {key va
 
         -- ---- 7
 
-        pub refuses-7 : leb (n + 2) (capacityOf t) ≡ false → Refuses g node place key value 7
+        pub refuses-7 : leb (n + 2) (capacityOf t) ≡ false → RefusedWith g node place key value 7
         refuses-7 r =
             refuses g node place key value 7
             (λ room. noNodes (g .value) site k x with-depth (omega (arith, g .counted, leb-false (n + 2) (capacityOf t) r)))

@@ -14,7 +14,7 @@ use Rattle.format.specs.Tree.{branch, nodesIn}
 use Rattle.format.specs.Syntax.{array, object, Spelling, Container, Value, Values}
 use Rattle.format.specs.Answer.{Answer, ok, refused, _>>=_}
 use Rattle.format.specs.Read.{expect, isArray, readPairs, setting, Inner}
-use Rattle.format.specs.Table.{Node, words, width, flat, branchNode, pairsOffset, table, tableIn}
+use Rattle.format.specs.Table.{Node, words, width, endWord, flat, branchNode, pairsOffset, table, tableIn}
 use Rattle.format.proofs.Inversion.{pairs-count}
 use Rattle.scanner.specs.declared.Text.{Text}
 use Rattle.scanner.specs.declared.Scan.{Scan}
@@ -108,7 +108,7 @@ module _ (s : List ℕ) (capacity : ℕ) (c : Cursor) (b : ℕ) (is : containerT
       pub brace-missing : eqb (byteAt s (last .at)) (byte "}") ≡ false → given ≡ refused 2 (c .at)
       brace-missing e = opened-pairs ∙ ap (λ (o : Answer (Values × List ℕ)). o >>= shut) (g .is) ∙ rw (expect-no (c .at) s (last .at) (byte "}") [] e)
 
-      module _ (e : eqb (byteAt s (last .at)) (byte "}") ≡ true) (l₂ : length t₂ ≡ length t₁) (e₃ : t₃ ≡ sets t₂ (c .node * width + 5) (last .node ∷ [])) where
+      module _ (e : eqb (byteAt s (last .at)) (byte "}") ≡ true) (l₂ : length t₂ ≡ length t₁) (e₃ : t₃ ≡ sets t₂ (c .node * width + endWord) (last .node ∷ [])) where
         e₁ : t₁ ≡ sets t (c .node * width) (words (nodeOf b (c .ordinal + 1) 0 x))
         e₁ = first .table
 
@@ -123,7 +123,7 @@ module _ (s : List ℕ) (capacity : ℕ) (c : Cursor) (b : ℕ) (is : containerT
 
         keeps : KeptBelow t t₃ (c .node)
         keeps i l =
-            ap (λ (u : List ℕ). getD u i 0) e₃ ∙ getD-set-other t₂ (c .node * width + 5) i (last .node) 0 (λ q. omega arith)
+            ap (λ (u : List ℕ). getD u i 0) e₃ ∙ getD-set-other t₂ (c .node * width + endWord) i (last .node) 0 (λ q. omega arith)
             ∙ g .kept i (omega arith) ∙ run-kept t t₁ (words (nodeOf b (c .ordinal + 1) 0 x)) (c .node) e₁ i l
 
         all : tree.count (g .pairs) ≡ x .link
@@ -177,7 +177,7 @@ module _ (s : List ℕ) (capacity : ℕ) (c : Cursor) (b : ℕ) (is : containerT
             let w = g .wrote .of to p₁ q₁ in (
               node-around t t₁ t₂ t₃ front (flat (below to)) (c .node * width) 0 (last .node) refl e₁ (w .0 ∙ ap (λ (k : ℕ). sets t₁ k (flat (below to))) (row-behind (c .node))) e₃
                   ∙ ap (sets t (c .node * width)) (rows to),
-              points-keep to t₂ t₃ (last .node) (last .ordinal) (w .1) (λ i l. ap (λ (u : List ℕ). getD u (i * width + 1) 0) e₃ ∙ getD-set-other t₂ (c .node * width + 5) (i * width + 1) (last .node) 0 (λ z. omega arith)),
+              points-keep to t₂ t₃ (last .node) (last .ordinal) (w .1) (λ i l. ap (λ (u : List ℕ). getD u (i * width + 1) 0) e₃ ∙ getD-set-other t₂ (c .node * width + endWord) (i * width + 1) (last .node) 0 (λ z. omega arith)),
             )
 
         pub container-good : GoodValue s t t₃ capacity c given (record { at = last .at + 1; node = last .node; ordinal = last .ordinal; levels = c .levels })
@@ -192,7 +192,7 @@ module _ (s : List ℕ) (capacity : ℕ) (c : Cursor) (b : ℕ) (is : containerT
               fits = g .fits;
               ordinal = omega (arith, g .ordinal);
               levels = refl;
-              end = ap (λ (u : List ℕ). getD u (c .node * width + 5) 0) e₃ ∙ getD-set-same t₂ (c .node * width + 5) (last .node) 0 (omega (arith, long, l₁));
+              end = ap (λ (u : List ℕ). getD u (c .node * width + endWord) 0) e₃ ∙ getD-set-same t₂ (c .node * width + endWord) (last .node) 0 (omega (arith, long, l₁));
               kept = keeps;
               wrote = record { of = writes };
             }

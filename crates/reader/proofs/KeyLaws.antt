@@ -12,7 +12,7 @@ use Rattle.format.specs.Kind.{Kind, tag}
 use Rattle.format.specs.Syntax.{Quoted, intKey, stringKey, Key}
 use Rattle.format.specs.Keys.{integer, sameKey, hasKey}
 use Rattle.format.specs.Fits.{KeyFits}
-use Rattle.format.specs.Table.{width, wordAt, word}
+use Rattle.format.specs.Table.{width, wordAt, pairEnd, word}
 use Rattle.format.proofs.Words.{same-word}
 use Rattle.keys.specs.declared.KeyWords.{KeyWords}
 use Rattle.keys.specs.KeyWords.{keyWordsAt, keyWordsIn, sameWords, Held}
@@ -40,8 +40,8 @@ record Stepped (s t : List ℕ) (i n : ℕ) (ks : List Key) : Type 0 where
   rest : List Key
   is : ks ≡ key ∷ rest
   held : Held s key (keyWordsAt t i)
-  on : i + 1 < wordAt t i (width + 5)
-  chain : Chain s t (wordAt t i (width + 5)) n rest
+  on : i + 1 < wordAt t i pairEnd
+  chain : Chain s t (wordAt t i pairEnd) n rest
 
 stepped : {s t : List ℕ} {i n : ℕ} {ks : List Key} → Chain s t i n ks → i < n → Stepped s t i n ks
 stepped {n = n} none h = absurd (omega arith)
@@ -49,14 +49,14 @@ stepped {s = s} {t = t} {n = n} (pair {i = i} {k = k} {ks = ks} h e l c) lt =
     record { key = k; rest = ks; is = refl; held = h; on = omega arith; chain = subst (λ (x : ℕ). Chain s t x n ks) (sym e) c }
 
 -- the pair at node i ends behind it, and not behind the last, which ends at n
-abbrev pub Ends : List ℕ → (i n : ℕ) → Type 0
-Ends t i n = (i + 1 < wordAt t i (width + 5)) × (wordAt t i (width + 5) ≤ n)
+abbrev pub PairEnds : List ℕ → (i n : ℕ) → Type 0
+PairEnds t i n = (i + 1 < wordAt t i pairEnd) × (wordAt t i pairEnd ≤ n)
 
-pub walk-ends : {s t : List ℕ} {i n : ℕ} → Walk s t i n → i < n → Ends t i n
+pub walk-ends : {s t : List ℕ} {i n : ℕ} → Walk s t i n → i < n → PairEnds t i n
 walk-ends a lt = let step = stepped (a .chain) lt in (step .on, chain-le (step .chain))
 
 -- so the table has its key
-pub ends-key : (t : List ℕ) (i n : ℕ) → Ends t i n → n * width ≤ length t → keyWordsIn t i ≡ keyWordsAt t i
+pub ends-key : (t : List ℕ) (i n : ℕ) → PairEnds t i n → n * width ≤ length t → keyWordsIn t i ≡ keyWordsAt t i
 ends-key t i n e h = key-there t i (omega (arith, e, h))
 
 -- the keys that are left to compare
@@ -84,7 +84,7 @@ module _ {s t : List ℕ} {first n : ℕ} {w : KeyWords} where
           let p = stepped (x .chain) lt in
           sym (x .same ∙ ap (hasKey k) (p .is) ∙ ap (λ (b : Bool). b || hasKey k (p .rest)) (sym (decided (p .key) k (p .held) h) ∙ q))
 
-      pub left-more : r ≡ false → KeysLeft s t first n w (wordAt t i (width + 5))
+      pub left-more : r ≡ false → KeysLeft s t first n w (wordAt t i pairEnd)
       left-more q =
           record {
             walk = (let p = stepped (l .walk .chain) lt in record { keys = p .rest; chain = p .chain });
@@ -158,7 +158,7 @@ module _ {s t m₀ m : List ℕ} {first n b i : ℕ} (l : Marking s t m₀ m fir
     grown : Grows m₀ m₁
     grown = grows-on (l .grows) (entered-grows d)
 
-    pub marking-more : i < n → length m₁ ≡ length m → Marking s t m₀ m₁ first n b (wordAt t i (width + 5))
+    pub marking-more : i < n → length m₁ ≡ length m → Marking s t m₀ m₁ first n b (wordAt t i pairEnd)
     marking-more lt o =
         record {
           walk = (let p = stepped (l .walk .chain) lt in record { keys = p .rest; chain = p .chain });

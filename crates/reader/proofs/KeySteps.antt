@@ -17,7 +17,7 @@ use Rattle.format.specs.Syntax.{intKey, stringKey, Key, writeNumber, writeKey}
 use Rattle.format.specs.Keys.{hasKey}
 use Rattle.format.specs.Answer.{Answer, ok, refused, _>>=_, require}
 use Rattle.format.specs.Read.{keyText, readKey}
-use Rattle.format.specs.Table.{Node, words, width, wordAt, keyNode, textOffset}
+use Rattle.format.specs.Table.{Node, words, width, wordAt, tagWord, contentWord, sizeWord, keyNode, textOffset}
 use Rattle.format.proofs.Texts.{KeyKind, is-int, is-string, keyText-ok}
 use Rattle.format.proofs.Fronts.{number-length, quoted-length}
 use Rattle.format.proofs.Places.{quoted-text}
@@ -98,7 +98,7 @@ module _ (s : List ℕ) (at b : ℕ) (may : mayBeKey b ≡ true) (here : at < le
 added-words : (t t′ : List ℕ) (c c′ : Cursor) (b : ℕ) (x : Text) → c .node * width + width ≤ length t → NodeAdded t t′ c b x false c′
     → keyWordsAt t′ (c .node) ≡ record { tag = b; content = x .content; size = x .size }
 added-words t t′ c c′ b x room p =
-    of-words (wordAt t′ (c .node) 0) b (wordAt t′ (c .node) 2) (x .content) (wordAt t′ (c .node) 3) (x .size) (word-is 0 (lit< tt)) (word-is 2 (lit< tt)) (word-is 3 (lit< tt))
+    of-words (wordAt t′ (c .node) tagWord) b (wordAt t′ (c .node) contentWord) (x .content) (wordAt t′ (c .node) sizeWord) (x .size) (word-is 0 (lit< tt)) (word-is 2 (lit< tt)) (word-is 3 (lit< tt))
   where
     ws : List ℕ
     ws = words (nodeOf b 0 (c .node + 1) x)

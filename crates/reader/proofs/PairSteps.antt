@@ -15,7 +15,7 @@ use Rattle.format.specs.Syntax.{intKey, stringKey, Key, Value, Values, own, wri
 use Rattle.format.specs.Keys.{sameKey, hasKey}
 use Rattle.format.specs.Answer.{Answer, ok, refused, _>>=_}
 use Rattle.format.specs.Read.{readPairs, setting}
-use Rattle.format.specs.Table.{words, width, wordAt, flat, keyNode, valueOffset, table, tableIn}
+use Rattle.format.specs.Table.{words, width, wordAt, endWord, pairEnd, flat, keyNode, valueOffset, table, tableIn}
 use Rattle.format.proofs.Inversion.{key-written, value-written}
 use Rattle.format.proofs.Results.{flat-length}
 use Rattle.format.proofs.Rows.{tableIn-length}
@@ -51,12 +51,12 @@ held-kept : {s : List ℕ} (t t′ : List ℕ) (k : Key) (i : ℕ) → ((j : ℕ
     → Held s k (keyWordsAt t′ i)
 held-kept t t′ k i same h = rw (same 0 (lit< tt), same 2 (lit< tt), same 3 (lit< tt)) h
 
-chain-more : {s t : List ℕ} (t′ : List ℕ) {i n : ℕ} {ks : List Key} (k : Key) (m : ℕ) → KeptBelow t t′ n → Held s k (keyWordsAt t′ n) → wordAt t′ n (width + 5) ≡ m
+chain-more : {s t : List ℕ} (t′ : List ℕ) {i n : ℕ} {ks : List Key} (k : Key) (m : ℕ) → KeptBelow t t′ n → Held s k (keyWordsAt t′ n) → wordAt t′ n pairEnd ≡ m
     → n + 1 < m → Chain s t i n ks → Chain s t′ i m (ks ++ (k ∷ []))
 chain-more t′ k m same h e l none = pair h e l none
 chain-more {t = t} t′ k m same h e l (pair {i = i} {k = j} a b o c) =
     let q = chain-le c in
-    pair (held-kept t t′ j i (λ x u. same (i * width + x) (omega arith)) a) (same (i * width + (width + 5)) (omega arith) ∙ b) o (chain-more t′ k m same h e l c)
+    pair (held-kept t t′ j i (λ x u. same (i * width + x) (omega arith)) a) (same (i * width + pairEnd) (omega arith) ∙ b) o (chain-more t′ k m same h e l c)
 
 -- ---- what the loop keeps
 
@@ -205,10 +205,10 @@ module _ {s t₀ t m₀ m : List ℕ} {capacity container count : ℕ} {c₀ c :
         same-below : KeptBelow t t₂ (c .node)
         same-below i h = g .kept i (omega (arith, k .node)) ∙ run-kept t t₁ (words (keyNode (c .at) (c .node) (k .key))) (c .node) (k .table) i h
 
-        ends : wordAt t₂ (c .node) (width + 5) ≡ after .node
+        ends : wordAt t₂ (c .node) pairEnd ≡ after .node
         ends = ap (λ (i : ℕ). getD t₂ i 0) (behind (k .node)) ∙ g .end
           where
-            behind : mid .node ≡ c .node + 1 → c .node * width + (width + 5) ≡ mid .node * width + 5
+            behind : mid .node ≡ c .node + 1 → c .node * width + pairEnd ≡ mid .node * width + endWord
             behind e = omega arith
 
         listed : Earlier s t₂ m₂ (c₀ .node) (after .node) seen′ (k .key ∷ r .earlier)

@@ -11,7 +11,7 @@ use lib.Seq.{sets, set-set, set-comm, getD-set-same, getD-set-other, length-sets
 use Rattle.decimal.proofs.Decide.{Order, below, above, order}
 use Rattle.decimal.proofs.Stores.{sets-append}
 use Rattle.format.specs.Tree.{one}
-use Rattle.format.specs.Table.{width, wordAt, taken}
+use Rattle.format.specs.Table.{width, wordAt, ordinalWord, taken}
 use Rattle.reader.specs.Nodes.{CarrierIn}
 use Rattle.reader.specs.Steps.{Points, KeptBelow}
 
@@ -61,7 +61,7 @@ run-word t t′ ws node j e h l = ap (λ (u : List ℕ). getD u (node * width + 
 pub points-none : (to : ℕ → ℕ) (t : List ℕ) → Points to t 0 0
 points-none to t = record { below = λ i h. absurd (omega arith); found = λ n a b. absurd (omega arith); only = λ n i a h e. absurd (omega arith) }
 
-pub points-keep : (to : ℕ → ℕ) (t t′ : List ℕ) (node ordinal : ℕ) → Points to t node ordinal → ((i : ℕ) → i < node → wordAt t′ i 1 ≡ wordAt t i 1)
+pub points-keep : (to : ℕ → ℕ) (t t′ : List ℕ) (node ordinal : ℕ) → Points to t node ordinal → ((i : ℕ) → i < node → wordAt t′ i ordinalWord ≡ wordAt t i ordinalWord)
     → Points to t′ node ordinal
 points-keep to t t′ node ordinal p k =
     record {
@@ -78,11 +78,11 @@ module _ (to : ℕ → ℕ) (t : List ℕ) (node ordinal : ℕ) (p : Points to t
   same : (i : ℕ) → node ≤ i → i < node + 1 → i ≡ node
   same i a b = omega arith
 
-  here : (i : ℕ) → node ≤ i → i < node + 1 → wordAt t i 1 ≡ wordAt t node 1
-  here i a b = ap (λ (x : ℕ). wordAt t x 1) (same i a b)
+  here : (i : ℕ) → node ≤ i → i < node + 1 → wordAt t i ordinalWord ≡ wordAt t node ordinalWord
+  here i a b = ap (λ (x : ℕ). wordAt t x ordinalWord) (same i a b)
 
   -- a node that takes the next ordinal
-  pub points-step : wordAt t node 1 ≡ ordinal + 1 → to (suc ordinal) ≡ node → Points to t (node + 1) (ordinal + 1)
+  pub points-step : wordAt t node ordinalWord ≡ ordinal + 1 → to (suc ordinal) ≡ node → Points to t (node + 1) (ordinal + 1)
   points-step w e =
       record {
         below = λ i h. go-below i (order i node) h;
@@ -93,24 +93,24 @@ module _ (to : ℕ → ℕ) (t : List ℕ) (node ordinal : ℕ) (p : Points to t
       last : (n : ℕ) → ordinal + 1 ≤ n → n ≤ ordinal + 1 → n ≡ suc ordinal
       last n a b = omega arith
 
-      go-below : (i : ℕ) → Order i node → i < node + 1 → wordAt t i 1 ≤ ordinal + 1
+      go-below : (i : ℕ) → Order i node → i < node + 1 → wordAt t i ordinalWord ≤ ordinal + 1
       go-below i (below l) h = omega (arith, p .below i l)
       go-below i (above l) h = omega (arith, w, here i l h)
 
-      go-found : (n : ℕ) → 1 ≤ n → n ≤ ordinal + 1 → Order n (ordinal + 1) → (to n < node + 1) × (wordAt t (to n) 1 ≡ n)
+      go-found : (n : ℕ) → 1 ≤ n → n ≤ ordinal + 1 → Order n (ordinal + 1) → (to n < node + 1) × (wordAt t (to n) ordinalWord ≡ n)
       go-found n a b (below l) = let q = p .found n a (omega arith) in (omega (arith, q .0), q .1)
       go-found n a b (above l) =
           let q : to n ≡ node = ap to (last n l b) ∙ e in
-          (omega arith, ap (λ (x : ℕ). wordAt t x 1) q ∙ w ∙ omega arith)
+          (omega arith, ap (λ (x : ℕ). wordAt t x ordinalWord) q ∙ w ∙ omega arith)
 
-      go-only : (n i : ℕ) → 1 ≤ n → i < node + 1 → wordAt t i 1 ≡ n → Order i node → i ≡ to n
+      go-only : (n i : ℕ) → 1 ≤ n → i < node + 1 → wordAt t i ordinalWord ≡ n → Order i node → i ≡ to n
       go-only n i a h q (below l) = p .only n i a l q
       go-only n i a h q (above l) =
           let z : n ≡ suc ordinal = sym q ∙ here i l h ∙ w ∙ omega arith in
           same i l h ∙ sym e ∙ ap to (sym z)
 
   -- a node that takes none
-  pub points-skip : wordAt t node 1 ≡ 0 → Points to t (node + 1) ordinal
+  pub points-skip : wordAt t node ordinalWord ≡ 0 → Points to t (node + 1) ordinal
   points-skip w =
       record {
         below = λ i h. go-below i (order i node) h;
@@ -118,16 +118,16 @@ module _ (to : ℕ → ℕ) (t : List ℕ) (node ordinal : ℕ) (p : Points to t
         only = λ n i a h q. go-only n i a h q (order i node);
       }
     where
-      go-below : (i : ℕ) → Order i node → i < node + 1 → wordAt t i 1 ≤ ordinal
+      go-below : (i : ℕ) → Order i node → i < node + 1 → wordAt t i ordinalWord ≤ ordinal
       go-below i (below l) h = p .below i l
       go-below i (above l) h = omega (arith, w, here i l h)
 
-      go-only : (n i : ℕ) → 1 ≤ n → i < node + 1 → wordAt t i 1 ≡ n → Order i node → i ≡ to n
+      go-only : (n i : ℕ) → 1 ≤ n → i < node + 1 → wordAt t i ordinalWord ≡ n → Order i node → i ≡ to n
       go-only n i a h q (below l) = p .only n i a l q
       go-only n i a h q (above l) = absurd (omega (arith, w, q, here i l h))
 
   -- either
-  pub points-add : (own : Bool) → wordAt t node 1 ≡ taken own (ordinal + 1) → (T own → to (suc ordinal) ≡ node) → Points to t (node + 1) (ordinal + one own)
+  pub points-add : (own : Bool) → wordAt t node ordinalWord ≡ taken own (ordinal + 1) → (T own → to (suc ordinal) ≡ node) → Points to t (node + 1) (ordinal + one own)
   points-add true w e = points-step w (e tt)
   points-add false w e = subst (Points to t (node + 1)) (sym (add-zero ordinal)) (points-skip w)
 
@@ -135,7 +135,7 @@ module _ (to : ℕ → ℕ) (t : List ℕ) (node ordinal : ℕ) (p : Points to t
   pub link-is : (n r : ℕ) → CarrierIn t 0 node n r → 1 ≤ n → n ≤ ordinal → r ≡ to n
   link-is n r f a b = go (order r node)
     where
-      q : (to n < node) × (wordAt t (to n) 1 ≡ n)
+      q : (to n < node) × (wordAt t (to n) ordinalWord ≡ n)
       q = p .found n a b
 
       go : Order r node → r ≡ to n

@@ -7,7 +7,7 @@ use lib.Dec.{eqb, ltb, leb}
 use Rattle.format.specs.Kind.{Kind, tag}
 use Rattle.format.specs.Syntax.{intKey, stringKey, Key}
 use Rattle.format.specs.Keys.{integer, hasKey}
-use Rattle.format.specs.Table.{width, word, wordAt}
+use Rattle.format.specs.Table.{width, word, wordAt, pairEnd}
 use Rattle.keys.specs.declared.KeyWords.{KeyWords}
 use Rattle.keys.specs.KeyWords.{keyWordsAt, Held}
 use Rattle.key_filter.specs.Filter.{Grows, AllMarked}
@@ -24,7 +24,7 @@ keyOr t i n w = elim (ltb i n) [ true ↦ keyWordsAt t i | false ↦ w ]
 -- from node i on pairs stand up to node n, with these keys; a pair ends where word 5 of its value says
 pub data Chain (s t : List ℕ) : ℕ → ℕ → List Key → Type 0 where
   none : {n : ℕ} → Chain s t n n []
-  pair : {i n next : ℕ} {k : Key} {ks : List Key} → Held s k (keyWordsAt t i) → wordAt t i (width + 5) ≡ next → i + 1 < next
+  pair : {i n next : ℕ} {k : Key} {ks : List Key} → Held s k (keyWordsAt t i) → wordAt t i pairEnd ≡ next → i + 1 < next
       → Chain s t next n ks → Chain s t i n (k ∷ ks)
 
 pub record Walk (s t : List ℕ) (first node : ℕ) : Type 0 where

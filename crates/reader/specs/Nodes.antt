@@ -5,7 +5,7 @@ use mathlib.Core.Bool.{Bool}
 use Prim.Native.Nat.{ℕ, _+_, _-_, _*_, _≤_, _<_}
 use lib.Seq.{sets}
 use Rattle.format.specs.Tree.{one}
-use Rattle.format.specs.Table.{Node, words, width, wordAt, taken}
+use Rattle.format.specs.Table.{Node, words, width, wordAt, ordinalWord, taken}
 use Rattle.scanner.specs.declared.Text.{Text}
 use Rattle.reader.specs.declared.cursor.Cursor.{Cursor}
 
@@ -26,5 +26,5 @@ pub record NodeOpened (t t′ : List ℕ) (c : Cursor) (tag : ℕ) (x : Text) (r
 -- a node from one index up to another that carries the ordinal, or the end where none does
 pub record CarrierIn (t : List ℕ) (from to ordinal r : ℕ) : Type 0 where
   pub inside : r ≤ to
-  pub found : r < to → wordAt t r 1 ≡ ordinal
-  pub none : to ≤ r → (i : ℕ) → from ≤ i → i < to → wordAt t i 1 ≡ ordinal → ⊥
+  pub found : r < to → wordAt t r ordinalWord ≡ ordinal
+  pub none : to ≤ r → (i : ℕ) → from ≤ i → i < to → wordAt t i ordinalWord ≡ ordinal → ⊥

@@ -12,7 +12,7 @@ use Rattle.format.specs.Syntax.{Key, Value, Values, own}
 use Rattle.format.specs.Keys.{hasKey}
 use Rattle.format.specs.Answer.{Answer, ok, refused}
 use Rattle.format.specs.Read.{setting, Inner, readKey, readPairs, readBody, readValue, read}
-use Rattle.format.specs.Table.{words, width, wordAt, flat, keyNode, table, tableIn, tableOf}
+use Rattle.format.specs.Table.{words, width, wordAt, ordinalWord, endWord, flat, keyNode, table, tableIn, tableOf}
 use Rattle.scanner.specs.declared.Scan.{Scan}
 use Rattle.reader.specs.declared.cursor.Cursor.{Cursor}
 use Rattle.reader.specs.declared.cursor.Step.{Step}
@@ -27,9 +27,9 @@ use Rattle.reader.specs.KeysSeen.{Chain, Known, next}
 
 -- `to` names the node of each ordinal taken so far
 pub record Points (to : ℕ → ℕ) (t : List ℕ) (node ordinal : ℕ) : Type 0 where
-  pub below : (i : ℕ) → i < node → wordAt t i 1 ≤ ordinal
-  pub found : (n : ℕ) → 1 ≤ n → n ≤ ordinal → (to n < node) × (wordAt t (to n) 1 ≡ n)
-  pub only : (n i : ℕ) → 1 ≤ n → i < node → wordAt t i 1 ≡ n → i ≡ to n
+  pub below : (i : ℕ) → i < node → wordAt t i ordinalWord ≤ ordinal
+  pub found : (n : ℕ) → 1 ≤ n → n ≤ ordinal → (to n < node) × (wordAt t (to n) ordinalWord ≡ n)
+  pub only : (n i : ℕ) → 1 ≤ n → i < node → wordAt t i ordinalWord ≡ n → i ≡ to n
 
 -- `to` names the nodes of a value's ordinals: its own node is i, the next ordinal n
 abbrev mutual
@@ -95,7 +95,7 @@ pub record GoodValue (s t t′ : List ℕ) (capacity : ℕ) (c : Cursor) (o : An
   pub fits : c′ .node ≤ capacity
   pub ordinal : c′ .ordinal ≡ c .ordinal + ordinals own value
   pub levels : c′ .levels ≡ c .levels
-  pub end : wordAt t′ (c .node) 5 ≡ c′ .node
+  pub end : wordAt t′ (c .node) endWord ≡ c′ .node
   pub kept : KeptBelow t t′ (c .node)
   pub wrote : Wrote t t′ c c′ value
 

@@ -12,7 +12,7 @@ ghost use mathlib.Core.List.{[], _∷_};
 ghost use Prim.Native.Nat.{_+_, _*_, _≤_};
 ghost use lib.ListN.{length};
 ghost use lib.Seq.{sets};
-ghost use Rattle.format.specs.Table.{width, words};
+ghost use Rattle.format.specs.Table.{width, endWord, words};
 ghost use Rattle.reader.specs.Nodes.{nodeOf, NodeAdded, NodeOpened};
 
 // Writes the words of a node.
@@ -32,7 +32,7 @@ fn put_node(table: &mut [u64], node: usize, tag: u8, ordinal: u64, text: Text, e
 // Writes the end of a node, once it is known where it ends.
 pub(crate) fn put_end(table: &mut [u64], node: usize, end: u64)
     requires { ⌜ node * width + width ≤ length (now table) ⌝ }
-    ensures { λ _. ⌜ now (table .exit) ≡ sets (now (table .entry)) (node * width + 5) (end ∷ []) ⌝ }
+    ensures { λ _. ⌜ now (table .exit) ≡ sets (now (table .entry)) (node * width + endWord) (end ∷ []) ⌝ }
 {
     table[node * WIDTH + END] = end;
 }

@@ -38,7 +38,7 @@ module _ (c : tie.After-fit) where
   abbrev entry : tie.Start
   entry = start site
 
-  found : steps.Found (entry .pre) (entry .args .array-node) (entry .args .pair-index) (entry .args .key .now) (entry .args .value .now)
+  found : steps.GapFound (entry .pre) (entry .args .array-node) (entry .args .pair-index) (entry .args .key .now) (entry .args .value .now)
       (site .target .given .0 .0) (site .target .given .0 .1 .0) (gap-told .gap .given .0 .0) (gap-told .gap .given .0 .1 .0) (c .fit .given .0 .0)
   found = record {
     array = array site;

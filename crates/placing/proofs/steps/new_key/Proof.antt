@@ -3,7 +3,7 @@ use Prim.Native.Nat.{_+_, _*_, _<_}
 use native.Mathlib.Omega.{arith}
 use mathlib.Core.Path.{_≡_, refl, sym, ap, _∙_}
 use lib.ListN.{length}
-use Rattle.format.specs.Table.{width}
+use Rattle.format.specs.Table.{width, pairEnd}
 use Rattle.keys.specs.KeyWords.{keyWordsIn, sameWords}
 use Rattle.placing.proofs.WordLaws as laws
 use borrow.Author.Needs.{needs}
@@ -24,7 +24,7 @@ module _ (c : tie.In-loop Inv-loop μ-loop) where
   abbrev start : tie.Start Inv-loop μ-loop
   start = looped .before .before .before .before
 
-  pair-inside : looped .loop .node * width + (width + 5) < length (start .args .table .now)
+  pair-inside : looped .loop .node * width + pairEnd < length (start .args .table .now)
   pair-inside = laws.walks-first _ _ _ (c .loop-test .taken) (looped .loop .inv .walks)
 
 -- whether its key is the new one

@@ -4,7 +4,7 @@ use native.Mathlib.Omega.{arith}
 use mathlib.Core.List.{List}
 use mathlib.Core.Path.{_≡_}
 use borrow.Author.Needs.{needs}
-use Rattle.format.specs.Table.{wordAt}
+use Rattle.format.specs.Table.{wordAt, ordinalWord}
 use Rattle.decimal.proofs.Decide.{Order, below, above, order}
 use Rattle.reader.specs.Nodes.{CarrierIn}
 use Rattle.reader.proofs.lookup.node_of.Statement.{statement}
@@ -14,7 +14,7 @@ use Rattle.reader.proofs.lookup.node_of.Tie as tie
 none-at-all : {t : List ℕ} {from nodes n a b : ℕ} → CarrierIn t 0 from n a → from ≤ a → CarrierIn t from nodes n b → nodes ≤ b → CarrierIn t 0 nodes n nodes
 none-at-all {t} {from} {nodes} {n} p h q k = record { inside = omega arith; found = λ l. absurd (omega arith); none = λ _ i _ l e. go i l e (order i from) }
   where
-    go : (i : ℕ) → i < nodes → wordAt t i 1 ≡ n → Order i from → ⊥
+    go : (i : ℕ) → i < nodes → wordAt t i ordinalWord ≡ n → Order i from → ⊥
     go i l e (below m) = p .none h i (omega arith) m e
     go i l e (above m) = q .none k i m l e
 

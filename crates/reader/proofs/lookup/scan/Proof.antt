@@ -3,12 +3,12 @@ use Prim.Native.Nat.{ℕ, _-_, _≤_, _<_}
 use native.Mathlib.Omega.{arith}
 use mathlib.Core.Path.{_≡_}
 use borrow.Author.Count.{below-more}
-use Rattle.format.specs.Table.{wordAt}
+use Rattle.format.specs.Table.{wordAt, ordinalWord}
 use Rattle.reader.proofs.lookup.scan.Statement.{statement}
 use Rattle.reader.proofs.lookup.scan.Tie as tie
 
 abbrev Inv-loop : tie.InvT-loop
-Inv-loop table from to ordinal i₀ i = (from ≤ i) × (i ≤ to) × ((k : ℕ) → k < i → from ≤ k → wordAt table k 1 ≡ ordinal → ⊥)
+Inv-loop table from to ordinal i₀ i = (from ≤ i) × (i ≤ to) × ((k : ℕ) → k < i → from ≤ k → wordAt table k ordinalWord ≡ ordinal → ⊥)
 
 abbrev μ-loop : tie.MeasureT-loop
 μ-loop table from to ordinal i₀ i = to - i

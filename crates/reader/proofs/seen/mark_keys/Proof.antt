@@ -49,7 +49,7 @@ module _ (some : tie.Else1 Inv-loop μ-loop) where
   abbrev start : tie.Start Inv-loop μ-loop
   start = looped .before .before .before .before .before
 
-  ends : keys.Ends (start .args .table .now) (looped .loop .i) (start .args .node)
+  ends : keys.PairEnds (start .args .table .now) (looped .loop .i) (start .args .node)
   ends = keys.walk-ends (looped .loop .inv .walk) (some .if1 .left)
 
 mul-i : tie.Need-mul-i Inv-loop μ-loop

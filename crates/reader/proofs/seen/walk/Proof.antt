@@ -25,7 +25,7 @@ module _ (more : tie.In-loop Inv-loop μ-loop) where
   abbrev start : tie.Start Inv-loop μ-loop
   start = looped .before .before .before
 
-  ends : keys.Ends (start .args .table .now) (looped .loop .i) (start .args .node)
+  ends : keys.PairEnds (start .args .table .now) (looped .loop .i) (start .args .node)
   ends = keys.walk-ends (looped .loop .inv .walk) (more .loop-test .taken)
 
 -- whether its key is the new one
