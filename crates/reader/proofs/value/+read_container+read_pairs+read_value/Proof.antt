@@ -385,7 +385,10 @@ value-read-common-requires t c κs =
     (start t opened .pre .1, (g .inside, g .free, tagged.scalar-rest _ (g .known) (kind .match2 .rest .0 .1) (kind .match2 .rest .1)))
 
 value-returns : (t : ℕ) → Value t value-lts.Need-returns
-value-returns t c = (subst (GateAt _ _ _) (c .before .gate .given .1) (c .before .before .before .check-tag .ensures), grows-none _)
+value-returns t c =
+    let failed = c .before in
+    let checked = failed .before .before in
+    (subst (GateAt _ _ _) (failed .gate .given .1) (checked .check-tag .ensures), grows-none _)
 
 value-returns-2 : (t : ℕ) → Value t value-lts.Need-returns-2
 value-returns-2 t c =
