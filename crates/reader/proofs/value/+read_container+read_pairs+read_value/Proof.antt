@@ -317,8 +317,8 @@ pairs-loop-again t c =
     let key = subst (MeetsKey _ _ _ _ _ _) (told .key .given .1) (keyed .read-key .ensures .0 (run .earlier) (run .keys)) in
     let value = subst (Meets _ _ _ _ _ _) (done .value .given .1) (valued .read-value .ensures .0) in
     pairs.run-more run (more .loop-test .taken) _ _ key _ _ value (keyed .read-key .kept .1 .0) (valued .read-value .kept .1 .0)
-    _ _ (keyed .read-key .kept .1 .1 .0) (valued .read-value .kept .1 .1 .0) _ (told .key .given .1) (keyed .read-key .ensures .1) (valued .read-value .ensures .1)
-    _ _ (words .key-at .ensures) (known .next .ensures)
+    _ _ (keyed .read-key .kept .1 .1 .0) (valued .read-value .kept .1 .1 .0) _ (told .key .given .1) (keyed .read-key .ensures .1)
+    (valued .read-value .ensures .1) _ _ (words .key-at .ensures) (known .next .ensures)
 
 pairs-returns-3 : (t : ℕ) → Pairs t pairs-lts.Need-returns-3
 pairs-returns-3 t c = let run = c .before .loop .inv in (pairs.run-done run (omega arith), run .grown)
