@@ -42,7 +42,9 @@ returns c =
     floats.decimal-point _ _ _ (ran pointed .run-at .ensures) (point pointed) _ (fraction .run-at2 .ensures) (c .if2 .taken)
 
 is-exponent-requires : tie.Need-is-exponent-requires
-is-exponent-requires c κs = run-inside _ _ _ _ (c .before .run-at2 .ensures) (omega (arith, byte-there _ _ (byte ".") (lit< tt) (point (c .before .before))))
+is-exponent-requires c κs =
+    let fraction = c .before in
+    run-inside _ _ _ _ (fraction .run-at2 .ensures) (omega (arith, byte-there _ _ (byte ".") (lit< tt) (point (fraction .before))))
 
 returns-2 : tie.Need-returns-2
 returns-2 c =

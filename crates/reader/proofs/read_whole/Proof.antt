@@ -30,7 +30,8 @@ returns-2 c =
     let short = read .before .before .before in
     let start = short .before .before .before .before in
     let refused = subst (Meets _ _ _ _ _ _) (c .enum-told .given .1) (read .read-root .ensures .0) in
-    whole.whole-refused _ (start .args .table .now) (read .read-root .last .1 .0) _ _ _ _ (c .enum-told .given .1) (whole.whole-bad _ _ (short .if1 .left) _ _ refused)
+    whole.whole-refused _ (start .args .table .now) (read .read-root .last .1 .0) _ _ _ _ (c .enum-told .given .1)
+    (whole.whole-bad _ _ (short .if1 .left) _ _ refused)
 
 same-length-3 : tie.Need-same-length-3
 same-length-3 c = search needs

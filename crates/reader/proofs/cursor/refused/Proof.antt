@@ -14,11 +14,16 @@ enum-told c = search needs
 
 returns : tie.Need-returns
 unfolding refusalOf
-returns c = ap (λ (x : Scan). refusalOf x (c .before .before .before .args .at)) (sym (c .before .scan .given .1))
+returns c =
+    let found = c .before in
+    let start = found .before .before in
+    ap (λ (x : Scan). refusalOf x (start .args .at)) (sym (found .scan .given .1))
 
 returns-2 : tie.Need-returns-2
 unfolding refusalOf
-returns-2 c = ap (λ (x : Scan). refusalOf x (c .before .before .args .at)) (sym (c .enum-told .given .1))
+returns-2 c =
+    let start = c .before .before in
+    ap (λ (x : Scan). refusalOf x (start .args .at)) (sym (c .enum-told .given .1))
 
 pub refused-spec : {M : Type 1} → statement M
 refused-spec = tie.close (tie.spec enum-known-scan enum-told returns returns-2)

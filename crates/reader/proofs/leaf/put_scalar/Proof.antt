@@ -37,7 +37,8 @@ returns-2 c =
     let start = found .before .before .before .before in
     let is-scalar = start .pre .1 .0 .2 in
     let told = scalar-behind is-scalar (start .pre .1 .1 .scans) in
-    λ inner. leaves.scalar-good _ _ _ _ is-scalar inner _ _ _ _ (start .pre .0) (start .pre .1 .0 .1) (found-of told (found .scan .given .1)) (added .add-node .ensures)
+    let is = found-of told (found .scan .given .1) in
+    λ inner. leaves.scalar-good _ _ _ _ is-scalar inner _ _ _ _ (start .pre .0) (start .pre .1 .0 .1) is (added .add-node .ensures)
 
 pub put-scalar-spec : {M : Type 1} → statement M
 put-scalar-spec =

@@ -34,7 +34,10 @@ returns-2 : tie.Need-returns-2
 returns-2 c = record { inside = omega arith; found = λ h. c .before .scan2 .ensures .found (c .if2 .taken); none = λ h. absurd (omega arith) }
 
 returns-3 : tie.Need-returns-3
-returns-3 c = none-at-all (c .before .scan2 .ensures) (c .if2 .left) (c .before .before .before .scan .ensures) (c .before .before .if1 .left)
+returns-3 c =
+    let earlier = c .before in
+    let none = earlier .before in
+    none-at-all (earlier .scan2 .ensures) (c .if2 .left) (none .before .scan .ensures) (none .if1 .left)
 
 pub node-of-spec : {M : Type 1} → statement M
 node-of-spec =

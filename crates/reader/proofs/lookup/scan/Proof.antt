@@ -38,10 +38,14 @@ loop-less : tie.Need-loop-less Inv-loop μ-loop
 loop-less c = omega arith
 
 loop-again : tie.Need-loop-again Inv-loop μ-loop
-loop-again c = (omega arith, omega arith, below-more _ _ ((c .before .before .before .loop .inv) .2) (λ l. c .if1 .left))
+loop-again c =
+    let looped = c .before .before .before in
+    (omega arith, omega arith, below-more _ _ (looped .loop .inv .2) (λ l. c .if1 .left))
 
 returns-2 : tie.Need-returns-2 Inv-loop μ-loop
-returns-2 c = record { inside = (c .before .loop .inv) .1; found = λ h. absurd (omega arith); none = λ h k l m. (c .before .loop .inv) .2 k (omega arith) l }
+returns-2 c =
+    let looped = c .before in
+    record { inside = looped .loop .inv .1; found = λ h. absurd (omega arith); none = λ h k l m. looped .loop .inv .2 k (omega arith) l }
 
 pub scan-spec : {M : Type 1} → statement M
 scan-spec =

@@ -11,7 +11,9 @@ rank-requires : tie.Need-rank-requires
 rank-requires c κs = search needs
 
 returns : tie.Need-returns
-returns c = keys.next-is _ _ _ _ (c .before .before .rises .ensures) (c .rank .ensures) (c .before .if1 .taken)
+returns c =
+    let rising = c .before in
+    keys.next-is _ _ _ _ (rising .before .rises .ensures) (c .rank .ensures) (rising .if1 .taken)
 
 returns-2 : tie.Need-returns-2
 returns-2 c = keys.next-other _ _ _ (c .before .rises .ensures) (c .if1 .left)

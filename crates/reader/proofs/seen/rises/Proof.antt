@@ -24,7 +24,10 @@ returns-2 : tie.Need-returns-2
 returns-2 c = keys.rises-int _ _ _ _ _ (c .before .before .if1 .left) (c .enum-told .given .1) refl refl
 
 returns-3 : tie.Need-returns-3
-returns-3 c = keys.rises-int _ _ _ _ _ (c .before .before .before .before .if1 .left) (c .before .before .seen .given .1) (c .rank .ensures) refl
+returns-3 c =
+    let told = c .before .before in
+    let int = told .before .before in
+    keys.rises-int _ _ _ _ _ (int .if1 .left) (told .seen .given .1) (c .rank .ensures) refl
 
 returns-4 : tie.Need-returns-4
 returns-4 c = keys.rises-int _ _ _ _ _ (c .before .before .if1 .left) (c .enum-told2 .given .1) refl refl

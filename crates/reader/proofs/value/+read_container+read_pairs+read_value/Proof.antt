@@ -308,8 +308,8 @@ pairs-loop-again t c =
     let key = subst (MeetsKey _ _ _ _ _ _) (told .key .given .1) (keyed .read-key .ensures .0 (run .earlier) (run .keys)) in
     let value = subst (Meets _ _ _ _ _ _) (done .value .given .1) (valued .read-value .ensures .0) in
     pairs.run-more run (more .loop-test .taken) _ _ key _ _ value (keyed .read-key .kept .1 .0) (valued .read-value .kept .1 .0)
-    _ _ (keyed .read-key .kept .1 .1 .0) (valued .read-value .kept .1 .1 .0) _ (told .key .given .1) (keyed .read-key .ensures .1) (valued .read-value .ensures .1)
-    _ _ (words .key-at .ensures) (known .next .ensures)
+    _ _ (keyed .read-key .kept .1 .1 .0) (valued .read-value .kept .1 .1 .0) _ (told .key .given .1) (keyed .read-key .ensures .1)
+    (valued .read-value .ensures .1) _ _ (words .key-at .ensures) (known .next .ensures)
 
 pairs-returns-3 : (t : ℕ) → Pairs t pairs-lts.Need-returns-3
 pairs-returns-3 t c = let run = c .before .loop .inv in (pairs.run-done run (omega arith), run .grown)
@@ -376,7 +376,10 @@ value-read-common-requires t c κs =
     (start t opened .pre .1, (g .inside, g .free, tagged.scalar-rest _ (g .known) (kind .match2 .rest .0 .1) (kind .match2 .rest .1)))
 
 value-returns : (t : ℕ) → Value t value-lts.Need-returns
-value-returns t c = (subst (GateAt _ _ _) (c .before .gate .given .1) (c .before .before .before .check-tag .ensures), grows-none _)
+value-returns t c =
+    let failed = c .before in
+    let checked = failed .before .before in
+    (subst (GateAt _ _ _) (failed .gate .given .1) (checked .check-tag .ensures), grows-none _)
 
 value-returns-2 : (t : ℕ) → Value t value-lts.Need-returns-2
 value-returns-2 t c =

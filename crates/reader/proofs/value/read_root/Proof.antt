@@ -50,7 +50,10 @@ read-scalar-requires c κs =
     (start opened .pre, (g .inside, g .free, tagged.scalar-rest _ (g .known) (kind .match2 .rest .0 .1) (kind .match2 .rest .1)))
 
 returns : tie.Need-returns
-returns c = (subst (GateAt _ _ _) (c .before .gate .given .1) (c .before .before .before .check-tag .ensures), grows-none _)
+returns c =
+    let failed = c .before in
+    let checked = failed .before .before in
+    (subst (GateAt _ _ _) (failed .gate .given .1) (checked .check-tag .ensures), grows-none _)
 
 same-length : tie.Need-same-length
 same-length c = search needs

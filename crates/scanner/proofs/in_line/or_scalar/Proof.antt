@@ -19,7 +19,10 @@ anew-requires : tie.Need-anew-requires
 anew-requires c κs = search needs
 
 returns : tie.Need-returns
-returns c = answered (found _ (c .before .before .before .before .pre .text _ (c .before .scan .given .1)))
+returns c =
+    let told = c .before in
+    let start = told .before .before .before in
+    answered (found _ (start .pre .text _ (told .scan .given .1)))
 
 returns-2 : tie.Need-returns-2
 returns-2 c = scalars.made (c .anew .ensures) (c .before .scalar .ensures)

@@ -14,10 +14,14 @@ returns : tie.Need-returns
 returns c = digits-none _ _ _ _ (c .before .run-at .ensures) (c .if1 .taken)
 
 returns-2 : tie.Need-returns-2
-returns-2 c = digits-over _ _ _ _ (c .before .before .run-at .ensures) (c .before .if1 .left) (c .if2 .taken)
+returns-2 c =
+    let some = c .before in
+    digits-over _ _ _ _ (some .before .run-at .ensures) (some .if1 .left) (c .if2 .taken)
 
 returns-3 : tie.Need-returns-3
-returns-3 c = digits-are _ _ _ _ (c .before .before .run-at .ensures) (c .before .if1 .left) (c .if2 .left)
+returns-3 c =
+    let some = c .before in
+    digits-are _ _ _ _ (some .before .run-at .ensures) (some .if1 .left) (c .if2 .left)
 
 pub digits-spec : {M : Type 1} → statement M
 digits-spec = tie.close (tie.spec add-run-at run-at-requires returns returns-2 returns-3)
