@@ -13,6 +13,7 @@ BUILD := $(CURDIR)/build
 ARCHIVE := $(BUILD)/libtonschnecke.a
 CARGO := CARGO_TARGET_DIR=$(BUILD)/cargo TONSCHNECKE_LIB_DIR=$(BUILD) cargo
 LIBRARIES := $(patsubst crates/%/src/lib.rt,%,$(wildcard crates/*/src/lib.rt))
+SOURCES = $(wildcard $(foreach part,src specs proofs,$(LIBRARIES:%=crates/%/$(part))))
 PROGRAMS := $(patsubst crates/%/src/main.rt,%,$(wildcard crates/*/src/main.rt))
 # one more than the cores: a prover waits now and then; a small crate's edits take an eighth less time so
 JOBS := $(shell echo $$(($$(nproc) + 1)))
@@ -43,7 +44,7 @@ $(ARCHIVE): $(BUILD)/sources
 $(BUILD)/sources: always
 	@tools/need.sh rt
 	@mkdir -p $(BUILD)
-	@{ rt version; sha256sum crates.txt; find $(LIBRARIES:%=crates/%) \( -name must-fail -o -name wrong \) -prune -o -type f -exec sha256sum {} + | sort -k 2; } > $@.new
+	@{ rt version; sha256sum crates.txt; find $(SOURCES) -type f -exec sha256sum {} + | sort -k 2; } > $@.new
 	@cmp -s $@.new $@ || cp $@.new $@
 
 # the archive inside a program for users

@@ -34,7 +34,7 @@ pub one-most : (b : Bool) → one b ≤ 1
 one-most true = omega arith
 one-most false = omega arith
 
--- ---- the pathRank of a path: how many ordinals are taken before the value there
+-- ---- the rank of a path: how many ordinals are taken before the value there
 module _ {K L H R : Type 0} (own : R → Bool) where
   abbrev mutual
     pub pathRank : Tree K L H R → TreePath → ℕ
@@ -48,7 +48,7 @@ module _ {K L H R : Type 0} (own : R → Bool) where
     pathRankIn (pair k v ps) zero a = pathRank v a
     pathRankIn (pair k v ps) (suc q) a = ordinals own v + pathRankIn ps q a
 
-  -- entry i of the paths of pairs that begin at place b leads through some place, and has pathRank i
+  -- entry i of the paths of pairs that begin at place b leads through some place, and has rank i
   record PathFound (ps : Pairs K L H R) (b i : ℕ) : Type 0 where
     place : ℕ
     rest : TreePath
@@ -115,7 +115,7 @@ headOf h = record { container = mapContainer quotedOf h; spelling = shortest }
 abbrev pub ownMeaning : ReferenceMeaning → Bool
 ownMeaning r = hasOrdinal (tag (refKind (r .kind)))
 
--- the ordinal of the value that is named is one more than its path's pathRank
+-- the ordinal of the value that is named is one more than its path's rank
 abbrev referenceOf : Meaning → ReferenceMeaning → Reference
 referenceOf m r = record { kind = r .kind; spelling = shortest; named = suc (pathRank ownMeaning m (r .names)) }
 

@@ -1,5 +1,5 @@
 // Reading: takes a plan and any table, and gives the nodes written and the ordinals taken, the table filled; or refuses, 1 to 10 with a position, and every
-// word of the table is zero. Inside a refusal leaves the table as it falls, and `read` clears it. AddedNodes, editor, nodes and the C interface call `read`; all
+// word of the table is zero. Inside a refusal leaves the table as it falls, and `read` clears it. Placing, editor, nodes and the C interface call `read`; all
 // else is private.
 // No model stands between code and definition: the steps' contracts (specs/Steps) stand over `readValue`, `readPairs` and `readKey` of format, a cursor's
 // position being `drop at source`. A good step hands over the value read, and says what the table holds for every naming of the ordinals so far; `read` puts

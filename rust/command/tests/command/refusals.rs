@@ -21,7 +21,13 @@ const PLANS: [(&str, &str); 17] = [
     ("d:.;", "refused 2 at 0: the text that begins here is not of the form d:FLOAT;\n  d:.;\n  ^\n"),
     ("s:2:\"a\";", "refused 2 at 0: the text that begins here is not of the form s:LENGTH:\"BYTES\"; with so many bytes\n  s:2:\"a\";\n  ^\n"),
     ("a:0:{N;}", "refused 2 at 0: the text that begins here is not of the form a:COUNT:{PAIRS} with so many pairs\n  a:0:{N;}\n  ^\n"),
-    ("O:1:\"P\"", "refused 2 at 0: the text that begins here is not of the form O:LENGTH:\"CLASS\":COUNT:{PAIRS} with so many bytes and pairs\n  O:1:\"P\"\n  ^\n"),
+    (
+        "O:1:\"P\"",
+        "refused 2 at 0: the text that begins here is not of the form O:LENGTH:\"CLASS\":COUNT:{PAIRS} with so many bytes and pairs
+  O:1:\"P\"
+  ^
+",
+    ),
     ("r:-1;", "refused 2 at 0: the text that begins here is not of the form r:NUMBER;\n  r:-1;\n  ^\n"),
     ("R1;", "refused 2 at 0: the text that begins here is not of the form R:NUMBER;\n  R1;\n  ^\n"),
     ("C:1:\"X\":0:{}", "refused 3 at 0: a value begins with one of N b i d s a O r R\n  C:1:\"X\":0:{}\n  ^\n"),

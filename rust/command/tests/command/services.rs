@@ -47,7 +47,10 @@ fn every_plan_has_room_in_the_table() {
 
 #[test]
 fn show() {
-    let plan = r#"O:3:"Day":9:{s:3:"air";i:40;s:4:"self";r:1;s:4:"open";b:1;s:1:"f";d:-2;s:1:"g";d:1e3;s:1:"n";N;s:4:"text";s:9:"a "%\|/é";s:1:"5";a:1:{i:-7;R:4;}s:3:"two";R:3;}"#;
+    let plan = concat!(
+        r#"O:3:"Day":9:{s:3:"air";i:40;s:4:"self";r:1;s:4:"open";b:1;s:1:"f";d:-2;s:1:"g";d:1e3;s:1:"n";N;"#,
+        r#"s:4:"text";s:9:"a "%\|/é";s:1:"5";a:1:{i:-7;R:4;}s:3:"two";R:3;}"#
+    );
     let expected = r#"/: object "Day" of 9
   air: 40
   self: r to /, object "Day" of 9
