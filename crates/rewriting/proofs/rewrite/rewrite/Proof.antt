@@ -17,17 +17,20 @@ abbrev μ-loop : tie.MeasureT-loop
 loop-again : tie.Need-loop-again Inv-loop μ-loop
 loop-again c =
     let spelled = c .before .before in
-    let copied = c .before .before .before .before .before .before in
-    let found = c .before .before .before .before .before .before .before .before .before .before .before in
-    let stop = rewritten.halted-of (found .stretch .ensures) (c .before .before .before .before .before .before .before .before .before .at2 .given .1) in
+    let copied = spelled .before .before .before .before in
+    let known = copied .before .before .before in
+    let found = known .before .before in
+    let stop = rewritten.halted-of (found .stretch .ensures) (known .at2 .given .1) in
     rewritten.rewriting-more (found .before .loop .inv) (stop .0) (copied .copy2 .ensures) (copied .copy2 .kept .1 .1 .1 .0) (stop .1)
     (spelled .respell .ensures) (spelled .respell .kept .1 .1 .1 .1 .0)
 
 returns-2 : tie.Need-returns-2 Inv-loop μ-loop
 returns-2 c =
-    let found = c .before .before .before .before .before .before .before in
-    let stop = rewritten.ended-of (found .stretch .ensures) (c .before .before .before .before .before .at .given .1) in
-    rewritten.rewriting-all (found .before .loop .inv) (stop .0) (c .before .before .copy .ensures) (c .before .before .copy .kept .1 .1 .1 .0) (stop .1)
+    let copied = c .before .before in
+    let known = copied .before .before .before in
+    let found = known .before .before in
+    let stop = rewritten.ended-of (found .stretch .ensures) (known .at .given .1) in
+    rewritten.rewriting-all (found .before .loop .inv) (stop .0) (copied .copy .ensures) (copied .copy .kept .1 .1 .1 .0) (stop .1)
 
 returns : tie.Need-returns Inv-loop μ-loop
 returns c = rewritten.nothing-outside _ _ _ (c .before .before .before .args .change) _ _ (omega (arith, c .if1 .taken))
@@ -43,8 +46,9 @@ enum-known-at c = search needs
 
 copy-requires : tie.Need-copy-requires Inv-loop μ-loop
 copy-requires c κs =
-    let found = c .before .before .before .before in
-    let stop = rewritten.ended-of (found .stretch .ensures) (c .before .before .at .given .1) in
+    let known = c .before .before in
+    let found = known .before .before in
+    let stop = rewritten.ended-of (found .stretch .ensures) (known .at .given .1) in
     rewritten.stretch-bounds (found .before .loop .inv) (stop .0) (found .before .before .before .before .before .pre)
 
 same-length : tie.Need-same-length Inv-loop μ-loop
@@ -55,22 +59,24 @@ enum-known-at-2 c = search needs
 
 copy-requires-2 : tie.Need-copy-requires-2 Inv-loop μ-loop
 copy-requires-2 c κs =
-    let found = c .before .before .before .before in
-    let stop = rewritten.halted-of (found .stretch .ensures) (c .before .before .at2 .given .1) in
+    let known = c .before .before in
+    let found = known .before .before in
+    let stop = rewritten.halted-of (found .stretch .ensures) (known .at2 .given .1) in
     rewritten.stretch-bounds (found .before .loop .inv) (stop .0) (found .before .before .before .before .before .pre)
 
 respell-requires : tie.Need-respell-requires Inv-loop μ-loop
 respell-requires c κs =
     let copied = c .before .before .before in
-    let found = c .before .before .before .before .before .before .before .before in
-    let stop = rewritten.halted-of (found .stretch .ensures) (c .before .before .before .before .before .before .at2 .given .1) in
+    let known = copied .before .before .before in
+    let found = known .before .before in
+    let stop = rewritten.halted-of (found .stretch .ensures) (known .at2 .given .1) in
     rewritten.token-bounds (found .before .loop .inv) (stop .0) (copied .copy2 .ensures) (copied .copy2 .kept .1 .1 .1 .0) (stop .1)
     (found .before .before .before .before .before .pre)
 
 loop-less : tie.Need-loop-less Inv-loop μ-loop
 loop-less c =
-    let found = c .before .before .before .before .before .before .before .before .before .before .before in
-    let stop = rewritten.halted-of (found .stretch .ensures) (c .before .before .before .before .before .before .before .before .before .at2 .given .1) in
+    let known = c .before .before .before .before .before .before .before .before .before in
+    let stop = rewritten.halted-of (known .before .before .stretch .ensures) (known .at2 .given .1) in
     omega (arith, stop .0 .on, stop .1 .found .on, stop .1 .found .inside)
 
 pub rewrite-spec : {M : Type 1} → statement M
