@@ -18,7 +18,7 @@ fn for_accepted_insertions(check: impl Fn(Lent, Place, &Written)) {
             true
         })
     };
-    for case in cases::all().iter().filter(|case| case.inserted().is_some()) {
+    for case in cases::all().iter().filter(|case| case.is_inserted()) {
         assert!(check(case.texts.lent(), case.call.place), "{case}");
     }
     let mut random = Random::new(1);

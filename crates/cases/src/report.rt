@@ -1,133 +1,107 @@
-// The lines printed, and how many cases came out as they should.
-use crate::answer::Answer;
-use crate::memory::WORDS;
+// What is printed under a line.
+use crate::memory::held_byte;
+use crate::memory::held_word;
+use editor::Writing;
+use format::table::WIDTH;
 use libc::STDOUT_FILENO;
+use reader::Reading;
+ghost use Prim.Native.Nat.{_≤_};
+ghost use lib.ListN.{length};
 
-// Cases that came out right and wrong; wrapping sums, since a plain one would ask for a bound.
-pub struct Tally {
-    pub right: u64,
-    pub wrong: u64,
+pub(crate) fn print(text: &[u8]) {
+    io::write_all(STDOUT_FILENO, text);
 }
 
-impl Tally {
-    pub(crate) fn new() -> Self {
-        Tally { right: 0, wrong: 0 }
-    }
+fn print_number(before: &[u8], n: u64) {
+    print(before);
+    io::print_decimal(STDOUT_FILENO, n);
+}
 
-    fn right(self) -> Self {
-        Tally {
-            right: std::num::wrapping_add_u64(self.right, 1),
-            wrong: self.wrong,
+fn print_refusal(code: u8, at: usize) {
+    print_number(b"    refused ", code as u64);
+    print_number(b" at ", at as u64);
+}
+
+pub(crate) fn print_reading(reading: Reading) {
+    match reading {
+        Reading::Accepted { nodes, ordinals } => {
+            print_number(b"    nodes ", nodes as u64);
+            print_number(b", ordinals ", ordinals as u64);
         }
-    }
-
-    fn wrong(self) -> Self {
-        Tally {
-            right: self.right,
-            wrong: std::num::wrapping_add_u64(self.wrong, 1),
-        }
-    }
-
-    pub(crate) fn print(self) {
-        io::print_decimal(STDOUT_FILENO, self.right);
-        io::write_all(STDOUT_FILENO, b" cases as the paper says, ");
-        io::print_decimal(STDOUT_FILENO, self.wrong);
-        io::write_all(STDOUT_FILENO, b" wrong\n");
+        Reading::Refused { code, at } => print_refusal(code, at),
     }
 }
 
-// How a case came out: `first` is the first word of the table that differs, or the count of words.
-pub struct Outcome {
-    pub answer: Answer,
-    pub expected: Answer,
-    pub first: usize,
-    pub same_output: bool,
+// The index behind the last byte that is not as it was.
+fn output_end(out: &[u8]) -> usize
+    ensures { λ r. ⌜ r ≤ length (now (out .entry)) ⌝ }
+{
+    let mut end = out.len();
+    while 0 < end {
+        if out[end - 1] != held_byte(end - 1) {
+            return end;
+        }
+        end -= 1;
+    }
+    end
 }
 
-impl Outcome {
-    fn is_right(self) -> bool {
-        let answer = self.answer;
-        let expected = self.expected;
-        answer.is(expected) && self.first == WORDS && self.same_output
-    }
-
-    // A line's start; what a service was lent may stand between it and the answer.
-    pub(crate) fn print_label(self, label: &[u8]) {
-        if self.is_right() {
-            io::write_all(STDOUT_FILENO, b"as the paper says: ");
-        } else {
-            io::write_all(STDOUT_FILENO, b"WRONG: ");
-        }
-        io::write_all(STDOUT_FILENO, label);
-    }
-
-    pub(crate) fn print_answer(self) {
-        let answer = self.answer;
-        io::write_all(STDOUT_FILENO, b"  ");
-        print_answer(answer);
-    }
-
-    // A line's end, and the case counted.
-    pub(crate) fn close(self, tally: Tally) -> Tally {
-        if self.is_right() {
-            io::write_all(STDOUT_FILENO, b"\n");
-            return tally.right();
-        }
-        self.print_expected();
-        io::write_all(STDOUT_FILENO, b"\n");
-        tally.wrong()
-    }
-
-    fn print_expected(self) {
-        let expected = self.expected;
-        io::write_all(STDOUT_FILENO, b"; the paper says ");
-        print_answer(expected);
-        if self.first < WORDS {
-            io::write_all(STDOUT_FILENO, b"; word ");
-            io::print_decimal(STDOUT_FILENO, self.first as u64);
-            io::write_all(STDOUT_FILENO, b" of the table differs");
-        }
-        if !self.same_output {
-            io::write_all(STDOUT_FILENO, b"; the output differs");
-        }
+fn print_output(out: &[u8]) {
+    let end = output_end(out);
+    print_number(b", wrote ", end as u64);
+    if 0 < end {
+        print(b": ");
+        print(&out[0..end]);
     }
 }
 
-pub(crate) fn print_pair(before: &[u8], a: u64, between: &[u8], b: u64) {
-    io::write_all(STDOUT_FILENO, before);
-    io::print_decimal(STDOUT_FILENO, a);
-    io::write_all(STDOUT_FILENO, between);
-    io::print_decimal(STDOUT_FILENO, b);
-}
-
-fn print_answer(answer: Answer) {
-    match answer {
-        Answer::Read { nodes, ordinals } => {
-            print_pair(b"nodes ", nodes as u64, b", ordinals ", ordinals as u64)
-        }
-        Answer::Written { length } => {
-            io::write_all(STDOUT_FILENO, b"length ");
-            io::print_decimal(STDOUT_FILENO, length as u64);
-        }
-        Answer::Refused { code, at } => print_pair(b"refused ", code as u64, b" at ", at as u64),
+pub(crate) fn print_writing(writing: Writing, out: &[u8]) {
+    match writing {
+        Writing::Written { length } => print_number(b"    length ", length as u64),
+        Writing::Refused { code, at } => print_refusal(code, at),
     }
+    print_output(out);
 }
 
-// The bytes lent to a service that writes.
-pub(crate) fn print_lent(bytes: usize) {
-    io::write_all(STDOUT_FILENO, b" into ");
-    io::print_decimal(STDOUT_FILENO, bytes as u64);
-    io::write_all(STDOUT_FILENO, b" bytes");
-}
-
-// The text written.
-pub(crate) fn print_text(answer: Answer, out: &[u8]) {
-    let Answer::Written { length } = answer else {
-        return;
-    };
-    // A length beyond the output would be a wrong answer, and is told as one.
-    if length <= out.len() {
-        io::write_all(STDOUT_FILENO, b": ");
-        io::write_all(STDOUT_FILENO, &out[..length]);
+// How many words, from the first on, are zero.
+fn zeros(table: &[u64]) -> usize {
+    let mut i = 0;
+    while i < table.len() {
+        if table[i] != 0 {
+            return i;
+        }
+        i += 1;
     }
+    i
+}
+
+// The index behind the last word that is not as it was.
+fn table_end(table: &[u64]) -> usize
+    ensures { λ r. ⌜ r ≤ length (now (table .entry)) ⌝ }
+{
+    let mut end = table.len();
+    while 0 < end {
+        if table[end - 1] != held_word(end - 1) {
+            return end;
+        }
+        end -= 1;
+    }
+    end
+}
+
+pub(crate) fn print_table(table: &[u64]) {
+    let end = table_end(table);
+    let mut i = zeros(table);
+    if 0 < i {
+        print_number(b", zeros ", i as u64);
+    }
+    while i < end {
+        if i % WIDTH == 0 {
+            print_number(b"\n    ", (i / WIDTH) as u64);
+            print(b":");
+        }
+        print_number(b" ", table[i]);
+        i += 1;
+    }
+    print(b"\n");
 }
