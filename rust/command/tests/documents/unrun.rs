@@ -5,9 +5,10 @@ use crate::{FORMAT, GUIDE, README};
 use std::path::Path;
 
 /// The commands in blocks `sh`, and why they are not run. Of each only the target is looked up.
-const COMMANDS: [(&str, &str); 6] = [
+const COMMANDS: [(&str, &str); 7] = [
     ("make", "it proves every crate, and make test does so too"),
     ("make test", "it runs this test"),
+    ("make wrong", "it takes minutes, and proves what it tries"),
     ("make fuzz SECONDS=600 SEED=7", "it takes ten minutes"),
     ("make bench", "its times are never the same twice"),
     (
