@@ -35,7 +35,7 @@ archive: $(ARCHIVE)
 
 # rt staticlib proves what tonschnecke stands on one crate at a time, rt check several at once
 $(ARCHIVE): $(BUILD)/sources
-	@echo 'Proving the library, crate by crate: about four minutes from nothing on two cores. build/prove.log has the details.'
+	@echo 'Proving the library, crate by crate: two to three minutes from nothing on two cores. build/prove.log has the details.'
 	@tools/rt.sh build/prove.log check $(filter-out tonschnecke,$(LIBRARIES))
 	@tools/rt.sh build/archive.log staticlib tonschnecke
 	@cp target/staticlib/libtonschnecke.a $@
@@ -54,7 +54,7 @@ command: needed archive
 
 # proved, linked and run
 programs: needed
-	@echo 'Proving the programs: about two minutes from nothing on two cores, a second where nothing changed. build/programs.log has the details.'
+	@echo 'Proving the programs: about half a minute from nothing on two cores, a second where nothing changed. build/programs.log has the details.'
 	@tools/rt.sh build/programs.log check $(PROGRAMS)
 
 run: command
@@ -79,7 +79,7 @@ bench: needed archive
 # verdict, is printed last.
 test: needed
 	rt fmt --check
-	@echo 'Proving every crate from nothing and trying every edit: about a quarter of an hour on two cores. build/ci.log has the details.'
+	@echo 'Proving every crate from nothing and trying every edit: some twelve minutes on two cores. build/ci.log has the details.'
 	@RT_JOBS=$(JOBS) tools/rt.sh build/ci.log ci || { tail -n 1 build/ci.log; exit 1; }
 	@rm -f $(ARCHIVE)
 	$(MAKE) --no-print-directory compare
