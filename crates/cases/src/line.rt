@@ -1,21 +1,7 @@
 // A line and its parts. A part is named by the number of spaces before it.
+use bytes::scan::find;
 ghost use Prim.Native.Nat.{_≤_};
 ghost use lib.ListN.{length};
-
-// The index of the next such byte, or the length.
-pub(crate) fn find(text: &[u8], at: usize, b: u8) -> usize
-    requires { ⌜ at ≤ length (now text) ⌝ }
-    ensures { λ r. ⌜ (at ≤ r) × (r ≤ length (now (text .entry))) ⌝ }
-{
-    let mut i = at;
-    while i < text.len() {
-        if text[i] == b {
-            return i;
-        }
-        i += 1;
-    }
-    i
-}
 
 // A part with all that stands behind it.
 pub(crate) fn part(line: &[u8], spaces: usize) -> &[u8] {
@@ -36,7 +22,7 @@ pub(crate) fn part(line: &[u8], spaces: usize) -> &[u8] {
 // A part up to the next space.
 pub(crate) fn field(line: &[u8], spaces: usize) -> &[u8] {
     let rest = part(line, spaces);
-    let end = find(rest, 0, b' ');
+    let end = find(rest, 0, rest.len(), b' ');
     &rest[0..end]
 }
 
@@ -56,22 +42,16 @@ pub(crate) fn lent(line: &[u8], spaces: usize, most: usize) -> usize
     n
 }
 
-// Puts a text into the buffer at an index, as much of it as has room, and tells where it ends.
+// Puts a text into the buffer at an index, if it has room there, and tells where it ends.
 fn append(text: &[u8], buffer: &mut [u8], to: usize) -> usize
     requires { ⌜ to ≤ length (now buffer) ⌝ }
     ensures { λ r. ⌜ r ≤ length (now (buffer .exit)) ⌝ }
 {
-    let mut end = to;
-    let mut i = 0;
-    while i < text.len() {
-        if end == buffer.len() {
-            return end;
-        }
-        buffer[end] = text[i];
-        end += 1;
-        i += 1;
+    if buffer.len() - to < text.len() {
+        return to;
     }
-    end
+    bytes::copy(text, &mut buffer[to..]);
+    to + text.len()
 }
 
 // The same with a text so many times: `[`, how many times, a space, the text.
@@ -97,9 +77,9 @@ pub(crate) fn expand(line: &[u8], buffer: &mut [u8]) -> usize
     let mut end = 0;
     let mut at = 0;
     while at < line.len() {
-        let open = find(line, at, b'[');
+        let open = find(line, at, line.len(), b'[');
         end = append(&line[at..open], buffer, end);
-        let close = find(line, open, b']');
+        let close = find(line, open, line.len(), b']');
         if close == line.len() {
             return end;
         }

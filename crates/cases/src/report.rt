@@ -32,6 +32,13 @@ pub(crate) fn print_reading(reading: Reading) {
     }
 }
 
+pub(crate) fn print_writing(writing: Writing) {
+    match writing {
+        Writing::Written { length } => print_number(b"    length ", length as u64),
+        Writing::Refused { code, at } => print_refusal(code, at),
+    }
+}
+
 // The index behind the last byte that is not as it was.
 fn output_end(out: &[u8]) -> usize
     ensures { λ r. ⌜ r ≤ length (now (out .entry)) ⌝ }
@@ -46,21 +53,13 @@ fn output_end(out: &[u8]) -> usize
     end
 }
 
-fn print_output(out: &[u8]) {
+pub(crate) fn print_output(out: &[u8]) {
     let end = output_end(out);
-    print_number(b", wrote ", end as u64);
     if 0 < end {
+        print_number(b", wrote ", end as u64);
         print(b": ");
         print(&out[0..end]);
     }
-}
-
-pub(crate) fn print_writing(writing: Writing, out: &[u8]) {
-    match writing {
-        Writing::Written { length } => print_number(b"    length ", length as u64),
-        Writing::Refused { code, at } => print_refusal(code, at),
-    }
-    print_output(out);
 }
 
 // How many words, from the first on, are zero.

@@ -126,12 +126,7 @@ fn refused(call: Call, answer: &str) -> Option<Expected> {
         0 => String::new(),
         words => format!(", zeros {words}"),
     };
-    let wrote = match call.service {
-        Service::Read => "",
-        _ => ", wrote 0",
-    };
-    let answer = answer.strip_suffix(&(wrote.to_string() + &zeros))?;
-    let [code, at] = numbers(answer, ["refused ", " at "])?;
+    let [code, at] = numbers(answer.strip_suffix(&zeros)?, ["refused ", " at "])?;
     Some(Expected::Refused { code, at })
 }
 

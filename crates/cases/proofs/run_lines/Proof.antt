@@ -35,6 +35,9 @@ part-print-end c = search needs
 print-requires : tie.Need-print-requires Inv-loop μ-loop
 print-requires c κs = search needs
 
+shared-slice-read-letter : tie.Need-shared-slice-read-letter Inv-loop μ-loop
+shared-slice-read-letter c = search needs
+
 sub-run-line : tie.Need-sub-run-line Inv-loop μ-loop
 sub-run-line c = search needs
 
@@ -73,6 +76,7 @@ run-lines-spec =
     part-print-start
     part-print-end
     print-requires
+    shared-slice-read-letter
     sub-run-line
     part-run-line-start
     part-run-line-end
