@@ -55,7 +55,8 @@ drop-byte s i b l e =
 pub byte-other : (s : List ℕ) (i w : ℕ) → i < length s → eqb (byteAt s i) w ≡ false → eqb w (getD s i 0) ≡ false
 byte-other s i w k e = ne-eqb w (getD s i 0) (λ q. eqb-false (byteAt s i) w e (byte-in s i k ∙ sym q))
 
-pub expect-yes : (l : ℕ) (s : List ℕ) (i w : ℕ) (ws : List ℕ) → w < 256 → eqb (byteAt s i) w ≡ true → expect l (w ∷ ws) (drop i s) ≡ expect l ws (drop (i + 1) s)
+pub expect-yes : (l : ℕ) (s : List ℕ) (i w : ℕ) (ws : List ℕ) → w < 256 → eqb (byteAt s i) w ≡ true
+    → expect l (w ∷ ws) (drop i s) ≡ expect l ws (drop (i + 1) s)
 expect-yes l s i w ws h e = ap (expect l (w ∷ ws)) (drop-byte s i w h e) ∙ rw (expect, eq-eqb w w refl)
 
 pub expect-no : (l : ℕ) (s : List ℕ) (i w : ℕ) (ws : List ℕ) → eqb (byteAt s i) w ≡ false → expect l (w ∷ ws) (drop i s) ≡ refused 2 l
@@ -90,7 +91,8 @@ module _ (s : List ℕ) (i v w : ℕ) where
     pair-there h = byte-there s (i + 1) w h pair-second
 
     pub pair-yes : (l : ℕ) (ws : List ℕ) → v < 256 → w < 256 → expect l (v ∷ w ∷ ws) (drop i s) ≡ expect l ws (drop (i + 2) s)
-    pair-yes l ws h k = expect-yes l s i v (w ∷ ws) h pair-first ∙ expect-yes l s (i + 1) w ws k pair-second ∙ ap (λ (m : ℕ). expect l ws (drop m s)) (plus-two i)
+    pair-yes l ws h k = expect-yes l s i v (w ∷ ws) h pair-first ∙ expect-yes l s (i + 1) w ws k pair-second
+        ∙ ap (λ (m : ℕ). expect l ws (drop m s)) (plus-two i)
 
   pub pair-no : (l : ℕ) (ws : List ℕ) → v < 256 → (eqb (byteAt s i) v && eqb (byteAt s (i + 1)) w) ≡ false → expect l (v ∷ w ∷ ws) (drop i s) ≡ refused 2 l
   pair-no l ws h e = go (test (eqb (byteAt s i) v)) (test (eqb (byteAt s (i + 1)) w))

@@ -30,7 +30,8 @@ negate-of bits n r hn hr e = go (order (r + n) (2 ^ bits))
 
 -- zero minus zero minus n is n
 pub negate-twice : (bits n : ℕ) → 0 < n → n < 2 ^ bits → negate bits (negate bits n) ≡ n
-negate-twice bits n p h = let e : negate bits n ≡ 2 ^ bits - n = negate-some bits n p (omega arith) in rw e (negate-some bits (2 ^ bits - n) (omega arith) (omega arith) ∙ omega arith)
+negate-twice bits n p h = let e : negate bits n ≡ 2 ^ bits - n = negate-some bits n p (omega arith) in
+    rw e (negate-some bits (2 ^ bits - n) (omega arith) (omega arith) ∙ omega arith)
 
 -- an integer of so many bits, by its sign and magnitude; zero has no sign
 abbrev pub InBits : (bits : ℕ) → Bool → ℕ → Type 0

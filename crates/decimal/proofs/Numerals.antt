@@ -65,7 +65,8 @@ digit-high b t = leb→le b 57 (and-right (leb 48 b) (leb b 57) t)
 
 digits-append : (xs ys : List ℕ) → T (areDigits xs) → T (areDigits ys) → T (areDigits (xs ++ ys))
 digits-append [] ys p q = q
-digits-append (x ∷ xs) ys p q = and-T (isDigit x) (areDigits (xs ++ ys)) (and-left (isDigit x) (areDigits xs) p) (digits-append xs ys (and-right (isDigit x) (areDigits xs) p) q)
+digits-append (x ∷ xs) ys p q = and-T (isDigit x) (areDigits (xs ++ ys)) (and-left (isDigit x) (areDigits xs) p)
+    (digits-append xs ys (and-right (isDigit x) (areDigits xs) p) q)
 
 -- a run is made of digits, and a text is its run and what follows
 pub digits-are : (s : List ℕ) → T (areDigits (digitsOf s))
@@ -87,11 +88,19 @@ digits-split (b ∷ s) = go (test (isDigit b)) (digits-split s)
 -- digits and then another byte: the run is those digits
 pub digits-before : (ds : List ℕ) (c : ℕ) (r : List ℕ) → T (areDigits ds) → isDigit c ≡ false → digitsOf (ds ++ (c ∷ r)) ≡ ds
 digits-before [] c r t n = rw (n, digitsOf)
-digits-before (d ∷ ds) c r t n = rw (T-true (isDigit d) (and-left (isDigit d) (areDigits ds) t), digitsOf, digits-before ds c r (and-right (isDigit d) (areDigits ds) t) n)
+digits-before (d ∷ ds) c r t n = rw (
+  T-true (isDigit d) (and-left (isDigit d) (areDigits ds) t),
+  digitsOf,
+  digits-before ds c r (and-right (isDigit d) (areDigits ds) t) n,
+)
 
 pub after-before : (ds : List ℕ) (c : ℕ) (r : List ℕ) → T (areDigits ds) → isDigit c ≡ false → afterDigits (ds ++ (c ∷ r)) ≡ c ∷ r
 after-before [] c r t n = rw (n, afterDigits)
-after-before (d ∷ ds) c r t n = rw (T-true (isDigit d) (and-left (isDigit d) (areDigits ds) t), afterDigits, after-before ds c r (and-right (isDigit d) (areDigits ds) t) n)
+after-before (d ∷ ds) c r t n = rw (
+  T-true (isDigit d) (and-left (isDigit d) (areDigits ds) t),
+  afterDigits,
+  after-before ds c r (and-right (isDigit d) (areDigits ds) t) n,
+)
 
 -- ---- the shortest text
 value-append : (a : ℕ) (xs ys : List ℕ) → valueFrom a (xs ++ ys) ≡ valueFrom (valueFrom a xs) ys
@@ -178,7 +187,8 @@ spelling-from (b ∷ bs) p a z e t = go (order 0 a) (λ z′ e′. spelling-from
     go (above s) r =
         let a0 : a ≡ 0 = omega arith in
         let d0 : decimal a ≡ 48 ∷ [] = rw a0 (decimal-small 0 (omega arith)) in
-        let q : Goal ((p ++ (b ∷ [])) ++ bs) = r (suc z) (rw (e, d0, a0, one-digit b l h) (append-assoc (replicate z 48) (48 ∷ []) (b ∷ []) ∙ zeros-zero z (b ∷ []))) in
+        let q : Goal ((p ++ (b ∷ [])) ++ bs) = r (suc z)
+        (rw (e, d0, a0, one-digit b l h) (append-assoc (replicate z 48) (48 ∷ []) (b ∷ []) ∙ zeros-zero z (b ∷ []))) in
         (q .0, sym (append-assoc p (b ∷ []) bs) ∙ q .1)
 
 -- EVERY RUN IS ZEROS AND THE SHORTEST TEXT OF ITS VALUE

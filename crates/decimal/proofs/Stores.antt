@@ -25,7 +25,8 @@ stored-small before after at n h e = record {
 pub stored-short : {before after : List ℕ} {at n written : ℕ} → Stored before at n written after → n < 10 ^ 20 → written ≤ 20
 stored-short {n = n} s h = omega (arith, s .size, decimal-length 19 n h)
 
-pub stored-large : (before high after : List ℕ) (at n written : ℕ) → 10 ≤ n → Stored before at (n / 10) written high → after ≡ set high (at + written) (48 + n % 10)
+pub stored-large : (before high after : List ℕ) (at n written : ℕ) → 10 ≤ n → Stored before at (n / 10) written high
+    → after ≡ set high (at + written) (48 + n % 10)
     → Stored before at n (written + 1) after
 stored-large before high after at n written h s e = record {
   size = ap (λ (k : ℕ). k + 1) (s .size) ∙ sym (ap length (decimal-large n h) ∙ length-append (decimal (n / 10)) ((48 + n % 10) ∷ []));

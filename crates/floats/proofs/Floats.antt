@@ -54,7 +54,8 @@ pub exponent-other : (s : List ℕ) (at : ℕ) → at < length s → ((getD s at
 exponent-other s at h n =
     rw (drop-cons s at 0 h, isExponent, ne-eqb (byte "e") (getD s at 0) (λ e. n (inr (sym e))), ne-eqb (byte "E") (getD s at 0) (λ e. n (inl (sym e))))
 
-module _ (s : List ℕ) (at from : ℕ) (run : Run) (h : at < length s) (e : (getD s at 0 ≡ byte "E") ⊎ (getD s at 0 ≡ byte "e")) (g : SignEnd s (at + 1) from) (r : RunAt s from 0 run) where
+module _ (s : List ℕ) (at from : ℕ) (run : Run) (h : at < length s) (e : (getD s at 0 ≡ byte "E") ⊎ (getD s at 0 ≡ byte "e")) (g : SignEnd s (at + 1) from)
+    (r : RunAt s from 0 run) where
   is-e : (eqb (byte "e") (getD s at 0) || eqb (byte "E") (getD s at 0)) ≡ true
   is-e = ⊎-elim (λ q. rw q) (λ q. rw q) e
 
@@ -66,7 +67,8 @@ module _ (s : List ℕ) (at from : ℕ) (run : Run) (h : at < length s) (e : (ge
 
   pub exponent-digits : from < run .next → eqb (run .next) (length s) ≡ isExponent (drop at s)
   exponent-digits l =
-      sym (exponent-is ∙ rw (lt-ltb 0 (length (digitsOf (drop from s))) (omega (arith, r .next))) (empty-end s (run .next) (run-inside s from 0 run r (g .inside))))
+      sym (exponent-is ∙ rw (lt-ltb 0 (length (digitsOf (drop from s))) (omega (arith, r .next)))
+      (empty-end s (run .next) (run-inside s from 0 run r (g .inside))))
 
   pub exponent-bare : run .next ≤ from → false ≡ isExponent (drop at s)
   exponent-bare l = sym (exponent-is ∙ rw (le-ltb 0 (length (digitsOf (drop from s))) (omega (arith, r .next))))
@@ -101,7 +103,8 @@ module _ (s : List ℕ) (at : ℕ) (run : Run) (r : RunAt s at 0 run) where
     pointed : isDecimal (drop at s) ≡ (ltb 0 (length (digitsOf (drop at s)) + length (digitsOf (drop (end + 1) s))) && isExponent (drop (fraction .next) s))
     pointed =
         whole
-        ∙ ap (λ (p : List ℕ × List ℕ). ltb 0 (length (digitsOf (drop at s)) + length (p .0)) && isExponent (p .1)) (ap fractionOf (drop-byte s end (byte ".") (lit< tt) e))
+        ∙ ap (λ (p : List ℕ × List ℕ). ltb 0 (length (digitsOf (drop at s)) + length (p .0)) && isExponent (p .1))
+        (ap fractionOf (drop-byte s end (byte ".") (lit< tt) e))
         ∙ ap (λ (x : List ℕ). ltb 0 (length (digitsOf (drop at s)) + length (digitsOf (drop (end + 1) s))) && isExponent x) (run-rest s (end + 1) 0 fraction r₂)
 
     pub decimal-point : fraction .next ≡ at + 1 → false ≡ isDecimal (drop at s)

@@ -22,7 +22,8 @@ bind-ok (ok a) f b e = (a, refl, e)
 bind-ok (refused n p) f b e = absurd (not-both e)
 
 -- where the whole is refused, the first part is or the second
-pub bind-refused : {A B : Type 0} (a : Answer A) (f : A → Answer B) (n p : ℕ) → (a >>= f) ≡ refused n p → (a ≡ refused n p) ⊎ ((x : A) × (a ≡ ok x) × (f x ≡ refused n p))
+pub bind-refused : {A B : Type 0} (a : Answer A) (f : A → Answer B) (n p : ℕ) → (a >>= f) ≡ refused n p
+    → (a ≡ refused n p) ⊎ ((x : A) × (a ≡ ok x) × (f x ≡ refused n p))
 bind-refused (ok a) f n p e = inr (a, refl, e)
 bind-refused (refused c q) f n p e = let s = refused-same e in inl (ap₂ refused (s .0) (s .1))
 

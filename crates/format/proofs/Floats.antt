@@ -43,20 +43,26 @@ noSemicolon (b ∷ s) = not (eqb (byte ";") b) && noSemicolon s
 pub until-semicolon : (t r : List ℕ) → T (noSemicolon t) → until (byte ";") (t ++ (byte ";" ∷ r)) ≡ t
 until-semicolon [] r h = refl
 until-semicolon (b ∷ t) r h =
-    rw (T-false (eqb (byte ";") b) (and-left (not (eqb (byte ";") b)) (noSemicolon t) h), until, until-semicolon t r (and-right (not (eqb (byte ";") b)) (noSemicolon t) h))
+    rw (
+      T-false (eqb (byte ";") b) (and-left (not (eqb (byte ";") b)) (noSemicolon t) h),
+      until,
+      until-semicolon t r (and-right (not (eqb (byte ";") b)) (noSemicolon t) h),
+    )
 
 pub until-split : (s : List ℕ) → s ≡ until (byte ";") s ++ drop (length (until (byte ";") s)) s
 until-split [] = refl
 until-split (b ∷ s) = go (test (eqb (byte ";") b)) (until-split s)
   where
-    go : Test (eqb (byte ";") b) → s ≡ until (byte ";") s ++ drop (length (until (byte ";") s)) s → b ∷ s ≡ until (byte ";") (b ∷ s) ++ drop (length (until (byte ";") (b ∷ s))) (b ∷ s)
+    go : Test (eqb (byte ";") b) → s ≡ until (byte ";") s ++ drop (length (until (byte ";") s)) s
+        → b ∷ s ≡ until (byte ";") (b ∷ s) ++ drop (length (until (byte ";") (b ∷ s))) (b ∷ s)
     go (passed t) r = rw (t, until)
     go (failed t) r = rw (t, until) (ap {B = List ℕ} (λ x. b ∷ x) r)
 
 none-append : (s t : List ℕ) → T (noSemicolon s) → T (noSemicolon t) → T (noSemicolon (s ++ t))
 none-append [] t p q = q
 none-append (b ∷ s) t p q =
-    and-T (not (eqb (byte ";") b)) (noSemicolon (s ++ t)) (and-left (not (eqb (byte ";") b)) (noSemicolon s) p) (none-append s t (and-right (not (eqb (byte ";") b)) (noSemicolon s) p) q)
+    and-T (not (eqb (byte ";") b)) (noSemicolon (s ++ t)) (and-left (not (eqb (byte ";") b)) (noSemicolon s) p)
+    (none-append s t (and-right (not (eqb (byte ";") b)) (noSemicolon s) p) q)
 
 none-cons : (b : ℕ) (s : List ℕ) → (59 ≡ b → ⊥) → T (noSemicolon s) → T (noSemicolon (b ∷ s))
 none-cons b s n h = rw (ne-eqb 59 b n) h
@@ -69,7 +75,8 @@ none-digits (b ∷ s) h =
 
 -- a run of digits and a text without `;`
 none-run : (s : List ℕ) → T (noSemicolon (afterDigits s)) → T (noSemicolon s)
-none-run s h = subst (λ (x : List ℕ). T (noSemicolon x)) (sym (digits-split s)) (none-append (digitsOf s) (afterDigits s) (none-digits (digitsOf s) (digits-are s)) h)
+none-run s h = subst (λ (x : List ℕ). T (noSemicolon x)) (sym (digits-split s))
+    (none-append (digitsOf s) (afterDigits s) (none-digits (digitsOf s) (digits-are s)) h)
 
 none-sign : (k : Sign) (s : List ℕ) → T (noSemicolon s) → T (noSemicolon (writeSign k s))
 none-sign unsigned s h = h
@@ -87,7 +94,8 @@ none-exponent (b ∷ s) h =
     let z : Bool = isEmpty (afterDigits (signOf s .1)) in
     let front : T (e && d) = and-left (e && d) z h in
     none-cons b s
-    (λ q. or-cases (eqb (byte "e") b) (eqb (byte "E") b) ⊥ (λ t. omega (arith, eqb→eq (byte "e") b t)) (λ t. omega (arith, eqb→eq (byte "E") b t)) (and-left e d front))
+    (λ q. or-cases (eqb (byte "e") b) (eqb (byte "E") b) ⊥ (λ t. omega (arith, eqb→eq (byte "e") b t)) (λ t. omega (arith, eqb→eq (byte "E") b t))
+    (and-left e d front))
     (none-signed s (none-run (signOf s .1) (rw (empty-ok (afterDigits (signOf s .1)) (and-right (e && d) z h)) tt)))
 
 none-fraction : (s : List ℕ) → T (isExponent (fractionOf s .1)) → T (noSemicolon s)
@@ -99,7 +107,9 @@ none-fraction (b ∷ s) h = go (test (eqb (byte ".") b))
     go (failed t) = none-exponent (b ∷ s) (rw (t, fractionOf) at h)
 
 none-decimal : (s : List ℕ) → T (isDecimal s) → T (noSemicolon s)
-none-decimal s h = none-run s (none-fraction (afterDigits s) (and-right (ltb 0 (length (digitsOf s) + length (fractionOf (afterDigits s) .0))) (isExponent (fractionOf (afterDigits s) .1)) h))
+none-decimal s h = none-run s
+    (none-fraction (afterDigits s)
+    (and-right (ltb 0 (length (digitsOf s) + length (fractionOf (afterDigits s) .0))) (isExponent (fractionOf (afterDigits s) .1)) h))
 
 -- NO FLOAT TEXT HOLDS A `;`
 pub float-semicolon : (t : List ℕ) → T (isFloat t) → T (noSemicolon t)
@@ -107,6 +117,7 @@ unfolding isFloat
 float-semicolon t h =
     or-cases (sameBytes t (bytes "INF") || sameBytes t (bytes "-INF") || sameBytes t (bytes "NAN")) (isDecimal (signOf t .1)) (T (noSemicolon t))
     (λ u. or-cases (sameBytes t (bytes "INF") || sameBytes t (bytes "-INF")) (sameBytes t (bytes "NAN")) (T (noSemicolon t))
-    (λ v. or-cases (sameBytes t (bytes "INF")) (sameBytes t (bytes "-INF")) (T (noSemicolon t)) (λ w. rw (bytes-equal t (bytes "INF") w) tt) (λ w. rw (bytes-equal t (bytes "-INF") w) tt) v)
+    (λ v. or-cases (sameBytes t (bytes "INF")) (sameBytes t (bytes "-INF")) (T (noSemicolon t)) (λ w. rw (bytes-equal t (bytes "INF") w) tt)
+    (λ w. rw (bytes-equal t (bytes "-INF") w) tt) v)
     (λ v. rw (bytes-equal t (bytes "NAN") v) tt) u)
     (λ u. none-signed t (none-decimal (signOf t .1) u)) h

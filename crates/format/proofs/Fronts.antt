@@ -9,7 +9,9 @@ use Rattle.decimal.proofs.Numerals.{spelled-length}
 use Rattle.format.specs.Bytes.{byte}
 use Rattle.format.specs.Kind.{tag}
 use Rattle.format.specs.Tree.{leaf, ref, branch, none, pair, count}
-use Rattle.format.specs.Syntax.{intKey, stringKey, null, bool, int, float, string, array, object, Spelling, Sign, unsigned, plus, minus, Literal, Quoted, Key, Scalar, Container, refKind, Value, Values, writeNumber, writeSign, writeQuoted, writeInt, writeString, writeKey, writeScalar, writeContainer, write, writePairs}
+use Rattle.format.specs.Syntax.{intKey, stringKey, null, bool, int, float, string, array, object, Spelling, Sign, unsigned, plus, minus, Literal, Quoted}
+use Rattle.format.specs.Syntax.{Key, Scalar, Container, refKind, Value, Values, writeNumber, writeSign, writeQuoted, writeInt, writeString, writeKey}
+use Rattle.format.specs.Syntax.{writeScalar, writeContainer, write, writePairs}
 
 pub number-front : (w : Spelling) (n : ℕ) (r s : List ℕ) → writeNumber w n (r ++ s) ≡ writeNumber w n r ++ s
 number-front w n r s = sym (append-assoc (spelled (w .zeros) n) r s)
@@ -61,11 +63,13 @@ mutual
   pub pairs-front : (ps : Values) (r s : List ℕ) → writePairs ps (r ++ s) ≡ writePairs ps r ++ s
   pairs-front none r s = refl
   pairs-front (pair k v ps) r s =
-      ap (λ (y : List ℕ). writeKey k (write v y)) (pairs-front ps r s) ∙ ap (writeKey k) (write-front v (writePairs ps r) s) ∙ key-front k (write v (writePairs ps r)) s
+      ap (λ (y : List ℕ). writeKey k (write v y)) (pairs-front ps r s) ∙ ap (writeKey k) (write-front v (writePairs ps r) s)
+      ∙ key-front k (write v (writePairs ps r)) s
 
 -- ---- lengths
 pub number-length : (w : Spelling) (n : ℕ) (r : List ℕ) → length (writeNumber w n r) ≡ w .zeros + length (decimal n) + length r
 number-length w n r = length-append (spelled (w .zeros) n) r ∙ ap (λ (m : ℕ). m + length r) (spelled-length (w .zeros) n)
 
-pub quoted-length : (q : Quoted) (r : List ℕ) → length (writeQuoted q r) ≡ q .spelling .zeros + length (decimal (length (q .text))) + length (q .text) + length r + 3
+pub quoted-length : (q : Quoted) (r : List ℕ)
+    → length (writeQuoted q r) ≡ q .spelling .zeros + length (decimal (length (q .text))) + length (q .text) + length r + 3
 quoted-length q r = number-length (q .spelling) (length (q .text)) (byte ":" ∷ byte "\"" ∷ q .text ++ (byte "\"" ∷ r)) ∙ simp length-append (omega arith)

@@ -9,12 +9,15 @@ use lib.ListN.{length}
 use Rattle.format.specs.Bytes.{byte, bytes, isEmpty}
 use Rattle.format.specs.Kind.{Kind, kinds, tag, keyKinds}
 use Rattle.format.specs.Tree.{leaf, ref, count, nodes, nodesIn}
-use Rattle.format.specs.Syntax.{null, bool, int, float, string, array, object, Spelling, Key, Scalar, Container, RefKind, objectRef, variableRef, refKind, Value, Values, writeNumber, writeKey, writeScalar, writeContainer, write, writePairs, print}
+use Rattle.format.specs.Syntax.{null, bool, int, float, string, array, object, Spelling, Key, Scalar, Container, RefKind, objectRef, variableRef, refKind}
+use Rattle.format.specs.Syntax.{Value, Values, writeNumber, writeKey, writeScalar, writeContainer, write, writePairs, print}
 use Rattle.format.specs.Keys.{hasKey}
 use Rattle.format.specs.Limits.{sourceLimit, depthLimit, Seen, unseen, seeBranch, see}
-use Rattle.format.specs.Fits.{KeyFits, ScalarFits, ContainerFits, allowed, Sound, SoundIn, Limited, LimitedIn, Backward, BackwardIn, Shallow, ShallowIn, IsPlan}
+use Rattle.format.specs.Fits.{KeyFits, ScalarFits, ContainerFits, allowed, Sound, SoundIn, Limited, LimitedIn, Backward, BackwardIn, Shallow, ShallowIn}
+use Rattle.format.specs.Fits.{IsPlan}
 use Rattle.format.specs.Answer.{ok, _>>=_, require}
-use Rattle.format.specs.Read.{tagOf, expect, number, intText, quotedText, boolText, floatText, referenceText, Setting, setting, position, isArray, keyText, Inner, readKey, readPairs, readBranch, readBody, readValue, read}
+use Rattle.format.specs.Read.{tagOf, expect, number, intText, quotedText, boolText, floatText, referenceText, Setting, setting, position, isArray}
+use Rattle.format.specs.Read.{keyText, Inner, readKey, readPairs, readBranch, readBody, readValue, read}
 use Rattle.format.proofs.Answers.{ok-same, not-both, bind-ok, require-ok}
 use Rattle.format.proofs.Floats.{empty-ok}
 use Rattle.format.proofs.Texts.{tag-ok, expect-ok, number-ok, int-ok, quoted-ok, bool-ok, float-ok, reference-ok, key-kind, keyText-ok, key-allowed}
@@ -29,7 +32,8 @@ module _ (set : Setting) where
     fresh : T (not (hasKey (q .0) earlier))
     small : before < set .capacity
 
-  pub key-ok : (c : Container) (earlier : List Key) (before : ℕ) (s : List ℕ) (q : Key × List ℕ) → readKey set (isArray c) earlier before s ≡ ok q → GotKey c earlier before s q
+  pub key-ok : (c : Container) (earlier : List Key) (before : ℕ) (s : List ℕ) (q : Key × List ℕ) → readKey set (isArray c) earlier before s ≡ ok q
+      → GotKey c earlier before s q
   unfolding readKey
   key-ok h earlier before s q e =
       let l : ℕ = position set s in
@@ -73,7 +77,8 @@ module _ (set : Setting) where
       ap (λ (x : Values × List ℕ). count (x .0)) (sym (ok-same (ps .2)))
       ∙ ap suc (pairs-count inner a n (k .0 .0 ∷ earlier) (see seen (v .0 .0)) (suc (before + nodes (v .0 .0))) (v .0 .1) (ps .0) (ps .1))
 
-  module _ (inner : Inner) (d : ℕ) (inner-ok : (seen : Seen) (before : ℕ) (s : List ℕ) (q : Value × List ℕ) → inner seen before s ≡ ok q → Got d seen before s q) where
+  module _ (inner : Inner) (d : ℕ) (inner-ok : (seen : Seen) (before : ℕ) (s : List ℕ) (q : Value × List ℕ) → inner seen before s ≡ ok q
+      → Got d seen before s q) where
     pairs-ok : (h : Container) (n : ℕ) (earlier : List Key) (seen : Seen) (before : ℕ) (s : List ℕ) (q : Values × List ℕ) → before ≤ set .capacity
         → readPairs set inner (isArray h) n earlier seen before s ≡ ok q → GotPairs h n d earlier seen before s q
     unfolding write
@@ -118,7 +123,8 @@ module _ (set : Setting) where
         let i : suc d - 1 ≡ d = omega arith in
         subst (Got (suc d) seen before (writeContainer h s)) (ok-same (g .2)) (record {
           text = ap (writeContainer h) (na .text ∙ ap (writeNumber w n)
-              (expect-ok l (bytes ":{") (a .0 .1) (b .0) (b .1) ∙ ap (λ (x : List ℕ). 58 ∷ 123 ∷ x) (pc .text ∙ ap (writePairs (c .0 .0)) (expect-ok l (bytes "}") (c .0 .1) (g .0) (g .1))))
+              (expect-ok l (bytes ":{") (a .0 .1) (b .0) (b .1)
+              ∙ ap (λ (x : List ℕ). 58 ∷ 123 ∷ x) (pc .text ∙ ap (writePairs (c .0 .0)) (expect-ok l (bytes "}") (c .0 .1) (g .0) (g .1))))
               ∙ ap (λ (x : ℕ). writeNumber w x (58 ∷ 123 ∷ writePairs (c .0 .0) (125 ∷ g .0))) (sym all));
           sound = (f, pc .sound);
           limited = (omega (arith, na .fits, all), pc .limited);
@@ -141,7 +147,8 @@ module _ (set : Setting) where
           small = omega arith;
         })
 
-    scalar-ok : (seen : Seen) (before : ℕ) (x : Scalar) (s r : List ℕ) (q : Value × List ℕ) → before < set .capacity → ScalarFits x → s ≡ writeScalar x r → ok (leaf x, r) ≡ ok q → Got (suc d) seen before s q
+    scalar-ok : (seen : Seen) (before : ℕ) (x : Scalar) (s r : List ℕ) (q : Value × List ℕ) → before < set .capacity → ScalarFits x → s ≡ writeScalar x r
+        → ok (leaf x, r) ≡ ok q → Got (suc d) seen before s q
     unfolding write
     scalar-ok seen before x s r q m f t e =
         subst (Got (suc d) seen before s) (ok-same e) (record { text = t; sound = f; limited = tt; backward = tt; shallow = omega arith; small = omega arith })
@@ -190,7 +197,8 @@ module _ (set : Setting) where
       (ltb→lt before (set .capacity) (require-ok (ltb before (set .capacity)) 7 l (b .0) (b .1))) (b .2))
 
   -- what was read of a key or a value is what was written
-  pub key-written : (ofArray : Bool) (earlier : List Key) (before : ℕ) (s : List ℕ) (q : Key × List ℕ) → readKey set ofArray earlier before s ≡ ok q → s ≡ writeKey (q .0) (q .1)
+  pub key-written : (ofArray : Bool) (earlier : List Key) (before : ℕ) (s : List ℕ) (q : Key × List ℕ) → readKey set ofArray earlier before s ≡ ok q
+      → s ≡ writeKey (q .0) (q .1)
   key-written true earlier before s q e = key-ok array earlier before s q e .text
   key-written false earlier before s q e = key-ok (object (record { spelling = record { zeros = 0 }; text = [] })) earlier before s q e .text
 
@@ -206,7 +214,8 @@ read-ok capacity source v e =
     let b = bind-ok (readValue (setting capacity source) depthLimit unseen 0 source) _ v (a .2) in
     let c = bind-ok (require (isEmpty (b .0 .1)) 10 (position (setting capacity source) (b .0 .1))) _ v (b .2) in
     let g = value-ok (setting capacity source) depthLimit unseen 0 source (b .0) (b .1) in
-    let t : source ≡ print (b .0 .0) = g .text ∙ ap (write (b .0 .0)) (empty-ok (b .0 .1) (require-ok (isEmpty (b .0 .1)) 10 (position (setting capacity source) (b .0 .1)) (c .0) (c .1))) in
+    let t : source ≡ print (b .0 .0) = g .text
+    ∙ ap (write (b .0 .0)) (empty-ok (b .0 .1) (require-ok (isEmpty (b .0 .1)) 10 (position (setting capacity source) (b .0 .1)) (c .0) (c .1))) in
     subst (IsPlan capacity source) (ok-same (c .2)) (record {
       printed = t;
       fits = record {

@@ -14,7 +14,8 @@ pub bytes-equal : (s t : List ℕ) → T (sameBytes s t) → s ≡ t
 bytes-equal [] [] h = refl
 bytes-equal [] (b ∷ t) h = absurd h
 bytes-equal (a ∷ s) [] h = absurd h
-bytes-equal (a ∷ s) (b ∷ t) h = ap₂ {C = List ℕ} _∷_ (eqb→eq a b (and-left (eqb a b) (sameBytes s t) h)) (bytes-equal s t (and-right (eqb a b) (sameBytes s t) h))
+bytes-equal (a ∷ s) (b ∷ t) h = ap₂ {C = List ℕ} _∷_ (eqb→eq a b (and-left (eqb a b) (sameBytes s t) h))
+    (bytes-equal s t (and-right (eqb a b) (sameBytes s t) h))
 
 bytes-same : (s : List ℕ) → T (sameBytes s s)
 bytes-same [] = tt
@@ -42,4 +43,7 @@ meanings-same (stringKey t) = bytes-same t
 
 -- "equal keys mean the same", and no others
 pub equal-keys : (j k : Key) → T (sameKey j k) ↔ (keyMeaning j ≡ keyMeaning k)
-equal-keys j k = (meanings-equal (keyMeaning j) (keyMeaning k), λ e. subst (λ (a : KeyMeaning). T (sameMeaning (keyMeaning j) a)) e (meanings-same (keyMeaning j)))
+equal-keys j k = (
+  meanings-equal (keyMeaning j) (keyMeaning k),
+  λ e. subst (λ (a : KeyMeaning). T (sameMeaning (keyMeaning j) a)) e (meanings-same (keyMeaning j)),
+)

@@ -3,8 +3,10 @@ use mathlib.Core.Path.{_≡_, refl, ap, ap₂}
 use mathlib.Core.List.{List, [], _∷_, _++_, map}
 use mathlib.Core.Bool.{Bool}
 use Prim.Native.Nat.{ℕ, suc, _+_}
-use Rattle.format.specs.Syntax.{KeyOf, intKey, stringKey, ScalarOf, null, bool, int, float, string, ContainerOf, array, object, mapKey, mapScalar, mapContainer}
-use Rattle.format.specs.Tree.{Tree, leaf, ref, branch, Pairs, none, pair, TreePath, count, nodes, nodesIn, one, only, ordinals, ordinalsIn, paths, pathsIn, mapTree, mapPairs}
+use Rattle.format.specs.Syntax.{KeyOf, intKey, stringKey, ScalarOf, null, bool, int, float, string, ContainerOf, array, object, mapKey, mapScalar}
+use Rattle.format.specs.Syntax.{mapContainer}
+use Rattle.format.specs.Tree.{Tree, leaf, ref, branch, Pairs, none, pair, TreePath, count, nodes, nodesIn, one, only, ordinals, ordinalsIn, paths}
+use Rattle.format.specs.Tree.{pathsIn, mapTree, mapPairs}
 
 -- a statement of every reference
 module _ {K L H R : Type 0} (P : R → Type 0) where
@@ -109,6 +111,7 @@ module _ {I S I₁ S₁ I₂ S₂ : Type 0} (f : I → I₁) (g : S → S₁) (f
   scalar-map (float t) = refl
   scalar-map (string t) = ap string (es t)
 
-pub container-map : {S S₁ S₂ : Type 0} (g : S → S₁) (g′ : S₁ → S₂) (j : S → S₂) → ((t : S) → g′ (g t) ≡ j t) → (c : ContainerOf S) → mapContainer g′ (mapContainer g c) ≡ mapContainer j c
+pub container-map : {S S₁ S₂ : Type 0} (g : S → S₁) (g′ : S₁ → S₂) (j : S → S₂) → ((t : S) → g′ (g t) ≡ j t) → (c : ContainerOf S)
+    → mapContainer g′ (mapContainer g c) ≡ mapContainer j c
 container-map g g′ j e array = refl
 container-map g g′ j e (object t) = ap object (e t)

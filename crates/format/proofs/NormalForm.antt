@@ -7,15 +7,19 @@ use lib.ListN.{length, length-append}
 use Rattle.decimal.specs.Digits.{spelled}
 use Rattle.format.specs.Bytes.{byte}
 use Rattle.format.specs.Tree.{leaf, ref, branch, none, pair, TreePath, count, nodes, ordinals, paths, mapTree, mapPairs}
-use Rattle.format.specs.Syntax.{intKey, stringKey, null, bool, int, float, string, array, object, mapContainer, Spelling, Sign, unsigned, plus, minus, Literal, Quoted, Key, Scalar, Container, Value, Values, own, writeNumber, writeSign, writeInt, writeString, writeKey, writeScalar, writeContainer, write, writePairs, print}
+use Rattle.format.specs.Syntax.{intKey, stringKey, null, bool, int, float, string, array, object, mapContainer, Spelling, Sign, unsigned, plus, minus}
+use Rattle.format.specs.Syntax.{Literal, Quoted, Key, Scalar, Container, Value, Values, own, writeNumber, writeSign, writeInt, writeString, writeKey}
+use Rattle.format.specs.Syntax.{writeScalar, writeContainer, write, writePairs, print}
 use lib.IntN.{ℤ, pos, negsuc}
 use Rattle.format.specs.Keys.{signed, integer, keyMeaning, hasKey}
 use Rattle.format.specs.Limits.{depthLimit, integerLimit, unseen}
-use Rattle.format.specs.Fits.{IntFits, KeyFits, ScalarFits, ContainerFits, allowed, Sound, SoundIn, Limited, LimitedIn, Backward, BackwardIn, Shallow, ShallowIn, Valid, Fits}
+use Rattle.format.specs.Fits.{IntFits, KeyFits, ScalarFits, ContainerFits, allowed, Sound, SoundIn, Limited, LimitedIn, Backward, BackwardIn, Shallow}
+use Rattle.format.specs.Fits.{ShallowIn, Valid, Fits}
 use Rattle.format.specs.Answer.{ok}
 use Rattle.format.specs.Read.{read}
 use Rattle.format.specs.Meaning.{meaning, scalarMeaning, headMeaning, referenceMeaning}
-use Rattle.format.specs.Canonical.{shortest, shortestSign, shortestInt, shortestQuoted, canonicalKey, canonicalScalar, canonicalHead, canonicalReference, canonical}
+use Rattle.format.specs.Canonical.{shortest, shortestSign, shortestInt, shortestQuoted, canonicalKey, canonicalScalar, canonicalHead, canonicalReference}
+use Rattle.format.specs.Canonical.{canonical}
 use Rattle.format.proofs.Maps.{refs-all, count-map, nodes-map, ordinals-map, paths-map, map-map, key-map, scalar-map, container-map}
 use Rattle.format.proofs.Fronts.{number-length, quoted-length}
 use Rattle.format.proofs.Printed.{read-print}
@@ -61,7 +65,8 @@ container-same c = container-map shortestQuoted quotedBytes quotedBytes (λ q. r
 pub canonical-meaning : (v : Value) → meaning (canonical v) ≡ meaning v
 unfolding meaning canonical
 canonical-meaning v =
-    ap (λ (env : List TreePath). mapTree keyMeaning scalarMeaning headMeaning (referenceMeaning env) (canonical v)) (paths-map canonicalKey canonicalScalar canonicalHead canonicalReference own own (λ r. refl) v)
+    ap (λ (env : List TreePath). mapTree keyMeaning scalarMeaning headMeaning (referenceMeaning env) (canonical v))
+    (paths-map canonicalKey canonicalScalar canonicalHead canonicalReference own own (λ r. refl) v)
     ∙ map-map canonicalKey canonicalScalar canonicalHead canonicalReference keyMeaning scalarMeaning headMeaning (referenceMeaning (paths own v))
     keyMeaning scalarMeaning headMeaning (referenceMeaning (paths own v)) (λ r. Unit {0})
     key-same scalar-same (λ h. container-same (h .container)) (λ r t. refl) v (refs-all (λ r. Unit {0}) (λ r. tt) v)
@@ -79,7 +84,11 @@ number-shorter w n r t h = omega (arith, number-length shortest n r, number-leng
 int-shorter : (x : Literal) (r t : List ℕ) → length r ≤ length t → length (writeInt (shortestInt x) r) ≤ length (writeInt x t)
 int-shorter x r t h =
     let n : ℕ = x .magnitude in
-    let e : length (spelled 0 n ++ (byte ";" ∷ r)) ≤ length (spelled (x .zeros) n ++ (byte ";" ∷ t)) = omega (arith, number-length shortest n (byte ";" ∷ r), number-length (record { zeros = x .zeros }) n (byte ";" ∷ t)) in
+    let e : length (spelled 0 n ++ (byte ";" ∷ r)) ≤ length (spelled (x .zeros) n ++ (byte ";" ∷ t)) = omega (
+      arith,
+      number-length shortest n (byte ";" ∷ r),
+      number-length (record { zeros = x .zeros }) n (byte ";" ∷ t),
+    ) in
     omega (arith, sign-shorter (x .sign) n (spelled 0 n ++ (byte ";" ∷ r)) (spelled (x .zeros) n ++ (byte ";" ∷ t)) e)
 
 string-shorter : (q : Quoted) (r t : List ℕ) → length r ≤ length t → length (writeString (shortestQuoted q) r) ≤ length (writeString q t)
@@ -96,7 +105,8 @@ scalar-shorter (int x) r t h = int-shorter x r t h
 scalar-shorter (float f) r t h = simp length-append (omega arith)
 scalar-shorter (string q) r t h = string-shorter q r t h
 
-pub container-shorter : (c : Container) (r t : List ℕ) → length r ≤ length t → length (writeContainer (mapContainer shortestQuoted c) r) ≤ length (writeContainer c t)
+pub container-shorter : (c : Container) (r t : List ℕ) → length r ≤ length t
+    → length (writeContainer (mapContainer shortestQuoted c) r) ≤ length (writeContainer c t)
 container-shorter array r t h = omega arith
 container-shorter (object q) r t h = omega (arith, quoted-length (shortestQuoted q) (byte ":" ∷ r), quoted-length q (byte ":" ∷ t))
 
@@ -115,13 +125,16 @@ mutual
   write-shorter (branch o ps) r t h =
       container-shorter (o .container) (writeNumber shortest (count (canonicalPairs ps)) (byte ":" ∷ byte "{" ∷ writePairs (canonicalPairs ps) (byte "}" ∷ r)))
       (writeNumber (o .spelling) (count ps) (byte ":" ∷ byte "{" ∷ writePairs ps (byte "}" ∷ t)))
-      (rw (count-canonical ps) (number-shorter (o .spelling) (count ps) (byte ":" ∷ byte "{" ∷ writePairs (canonicalPairs ps) (byte "}" ∷ r)) (byte ":" ∷ byte "{" ∷ writePairs ps (byte "}" ∷ t))
+      (rw (count-canonical ps)
+      (number-shorter (o .spelling) (count ps) (byte ":" ∷ byte "{" ∷ writePairs (canonicalPairs ps) (byte "}" ∷ r))
+      (byte ":" ∷ byte "{" ∷ writePairs ps (byte "}" ∷ t))
       (omega (arith, pairs-shorter ps (byte "}" ∷ r) (byte "}" ∷ t) (omega arith)))))
 
   pairs-shorter : (ps : Values) (r t : List ℕ) → length r ≤ length t → length (writePairs (canonicalPairs ps) r) ≤ length (writePairs ps t)
   pairs-shorter none r t h = h
   pairs-shorter (pair k v ps) r t h =
-      key-shorter k (write (canonical v) (writePairs (canonicalPairs ps) r)) (write v (writePairs ps t)) (write-shorter v (writePairs (canonicalPairs ps) r) (writePairs ps t) (pairs-shorter ps r t h))
+      key-shorter k (write (canonical v) (writePairs (canonicalPairs ps) r)) (write v (writePairs ps t))
+      (write-shorter v (writePairs (canonicalPairs ps) r) (writePairs ps t) (pairs-shorter ps r t h))
 
 -- paper 02, L8: "canonical text is never longer than its plan"
 pub canonical-shorter : (v : Value) → length (print (canonical v)) ≤ length (print v)
@@ -169,7 +182,8 @@ mutual
   sound-canonical (ref r) s = tt
   sound-canonical (branch h ps) s = (container-fits (h .container) (s .0), soundIn-canonical (h .container) [] ps (s .1))
 
-  soundIn-canonical : (c : Container) (js : List Key) (ps : Values) → SoundIn c js ps → SoundIn (mapContainer shortestQuoted c) (map canonicalKey js) (canonicalPairs ps)
+  soundIn-canonical : (c : Container) (js : List Key) (ps : Values) → SoundIn c js ps
+      → SoundIn (mapContainer shortestQuoted c) (map canonicalKey js) (canonicalPairs ps)
   soundIn-canonical c js none s = tt
   soundIn-canonical c js (pair k v ps) s =
       (key-fits k (s .0), rw (allowed-same c k) (s .1), rw (has-same k js) (s .2), sound-canonical v (s .3), soundIn-canonical c (k ∷ js) ps (s .4))

@@ -65,7 +65,8 @@ module _ {K L H R : Type 0} (own : R → Bool) where
     pathsIn-length q none = refl
     pathsIn-length q (pair k v ps) = simp (length-append, length-map) (ap₂ _+_ (paths-length v) (pathsIn-length (suc q) ps))
 
-  found-first : (k : K) (v : Tree K L H R) (ps : Pairs K L H R) (b i : ℕ) → i < ordinals own v → pathRank v (getD (paths own v) i []) ≡ i → PathFound (pair k v ps) b i
+  found-first : (k : K) (v : Tree K L H R) (ps : Pairs K L H R) (b i : ℕ) → i < ordinals own v → pathRank v (getD (paths own v) i []) ≡ i
+      → PathFound (pair k v ps) b i
   found-first k v ps b i h e =
       let l : i < length (paths own v) = omega (arith, paths-length v) in
       let under : List TreePath = map (λ (a : TreePath). b ∷ a) (paths own v) in
@@ -77,7 +78,8 @@ module _ {K L H R : Type 0} (own : R → Bool) where
         ranked = e;
       }
 
-  found-later : (k : K) (v : Tree K L H R) (ps : Pairs K L H R) (b i : ℕ) → ordinals own v ≤ i → PathFound ps (suc b) (i - ordinals own v) → PathFound (pair k v ps) b i
+  found-later : (k : K) (v : Tree K L H R) (ps : Pairs K L H R) (b i : ℕ) → ordinals own v ≤ i → PathFound ps (suc b) (i - ordinals own v)
+      → PathFound (pair k v ps) b i
   found-later k v ps b i h f =
       let under : List TreePath = map (λ (a : TreePath). b ∷ a) (paths own v) in
       let j : ℕ = i - ordinals own v in
@@ -104,7 +106,8 @@ module _ {K L H R : Type 0} (own : R → Bool) where
     rankIn-path none b i h = absurd (omega arith)
     rankIn-path (pair k v ps) b i h = which (order i (ordinals own v)) (λ l. rank-path v i l) (λ l. rankIn-path ps (suc b) (i - ordinals own v) l)
       where
-        which : Order i (ordinals own v) → (i < ordinals own v → pathRank v (getD (paths own v) i []) ≡ i) → (i - ordinals own v < ordinalsIn own ps → PathFound ps (suc b) (i - ordinals own v)) → PathFound (pair k v ps) b i
+        which : Order i (ordinals own v) → (i < ordinals own v → pathRank v (getD (paths own v) i []) ≡ i)
+            → (i - ordinals own v < ordinalsIn own ps → PathFound ps (suc b) (i - ordinals own v)) → PathFound (pair k v ps) b i
         which (below l) f g = found-first k v ps b i l (f l)
         which (above l) f g = found-later k v ps b i l (g (omega arith))
 
@@ -149,15 +152,20 @@ meaning-ordinals v = ordinals-map keyMeaning scalarMeaning headMeaning (referenc
 pub canonical-of-meaning : (v : Value) → Valid v → canonicalOf (meaning v) ≡ canonical v
 unfolding canonicalOf meaning canonical
 canonical-of-meaning v f =
-    map-map keyMeaning scalarMeaning headMeaning (referenceMeaning (paths own v)) (mapKey literalOf quotedOf) (mapScalar literalOf quotedOf) headOf (referenceOf (meaning v))
+    map-map keyMeaning scalarMeaning headMeaning (referenceMeaning (paths own v)) (mapKey literalOf quotedOf) (mapScalar literalOf quotedOf) headOf
+    (referenceOf (meaning v))
     canonicalKey canonicalScalar canonicalHead canonicalReference (Taken (ordinals own v))
-    (key-map integer quotedBytes literalOf quotedOf shortestInt shortestQuoted literal-shortest (λ q. refl)) (scalar-map integer quotedBytes literalOf quotedOf shortestInt shortestQuoted literal-shortest (λ q. refl))
-    (λ h. ap (λ (c : Container). record { container = c; spelling = shortest }) (container-map quotedBytes quotedOf shortestQuoted (λ q. refl) (h .container))) reference-of v (refs-taken (ordinals own v) v 0 (f .backward) (omega arith))
+    (key-map integer quotedBytes literalOf quotedOf shortestInt shortestQuoted literal-shortest (λ q. refl))
+    (scalar-map integer quotedBytes literalOf quotedOf shortestInt shortestQuoted literal-shortest (λ q. refl))
+    (λ h. ap (λ (c : Container). record { container = c; spelling = shortest })
+    (container-map quotedBytes quotedOf shortestQuoted (λ q. refl) (h .container))) reference-of v
+    (refs-taken (ordinals own v) v 0 (f .backward) (omega arith))
   where
     reference-of : (r : Reference) → Taken (ordinals own v) r → referenceOf (meaning v) (referenceMeaning (paths own v) r) ≡ canonicalReference r
     reference-of r t =
         ap (λ (n : ℕ). record { kind = r .kind; spelling = shortest; named = n })
-        (ap suc (ap (λ (ps : List TreePath). pathRank ownMeaning (meaning v) (getD ps (r .named - 1) [])) (sym (meaning-paths v)) ∙ rank-path ownMeaning (meaning v) (r .named - 1) (omega (arith, meaning-ordinals v))) ∙ omega arith)
+        (ap suc (ap (λ (ps : List TreePath). pathRank ownMeaning (meaning v) (getD ps (r .named - 1) [])) (sym (meaning-paths v))
+        ∙ rank-path ownMeaning (meaning v) (r .named - 1) (omega (arith, meaning-ordinals v))) ∙ omega arith)
 
 -- ONE CANONICAL TEXT: the same for two plans exactly when their meanings are the same
 pub one-canonical-text : (v w : Value) → Valid v → Valid w → (print (canonical v) ≡ print (canonical w)) ↔ (meaning v ≡ meaning w)

@@ -11,7 +11,8 @@ use borrow.Author.Tests.{ne-eqb, eq-eqb}
 use Rattle.decimal.proofs.Decide.{Test, passed, failed, test, T-of}
 use Rattle.format.specs.Tree.{leaf, ref, branch, none, pair, count, nodes, nodesIn, ordinals, ordinalsIn, one}
 use Rattle.format.specs.Syntax.{intKey, stringKey, Key, Value, Values, own}
-use Rattle.format.specs.Table.{Node, keyNode, scalarNode, branchNode, taken, refNode, table, tableIn, targetOf, tableOf, pairsOffset, valueOffset, nextOffset}
+use Rattle.format.specs.Table.{Node, keyNode, scalarNode, branchNode, taken, refNode, table, tableIn, targetOf, tableOf, pairsOffset, valueOffset}
+use Rattle.format.specs.Table.{nextOffset}
 use Rattle.format.specs.Shows.{ordinalsOf, upFrom, nodeAt}
 use Rattle.format.proofs.Rows.{scalar-carries, branch-carries}
 
@@ -32,7 +33,8 @@ ordinals-append (x ∷ xs) ys = go (test (eqb (x .ordinal) 0)) (ordinals-append 
 
 pub up-append : (n a b : ℕ) → upFrom n (a + b) ≡ upFrom n a ++ upFrom (n + a) b
 up-append n zero b = ap₂ upFrom (sym (add-zero n)) (zero-add b)
-up-append n (suc a) b = ap (upFrom n) (suc-add a b) ∙ ap {B = List ℕ} (λ l. n ∷ l) (up-append (suc n) a b ∙ ap (λ (m : ℕ). upFrom (suc n) a ++ upFrom m b) (omega arith))
+up-append n (suc a) b = ap (upFrom n) (suc-add a b)
+    ∙ ap {B = List ℕ} (λ l. n ∷ l) (up-append (suc n) a b ∙ ap (λ (m : ℕ). upFrom (suc n) a ++ upFrom m b) (omega arith))
 
 pub up-at : (n c k d : ℕ) → k < c → getD (upFrom n c) k d ≡ n + k
 up-at n zero k d h = absurd (omega arith)
@@ -66,7 +68,8 @@ module _ (to : ℕ → ℕ) where
         let vs : List Node = table to (valueOffset o k) (suc i) n v in
         let rest : List Node = tableIn to (nextOffset o k v) (suc (i + nodes v)) (n + ordinals own v) ps in
         ordinal-none (keyNode o i k) (vs ++ rest) (key-ordinal o i k) ∙ ordinals-append vs rest
-        ∙ ap₂ _++_ (table-ordinals v (valueOffset o k) (suc i) n h) (tableIn-ordinals ps (nextOffset o k v) (suc (i + nodes v)) (n + ordinals own v) (omega arith))
+        ∙ ap₂ _++_ (table-ordinals v (valueOffset o k) (suc i) n h)
+        (tableIn-ordinals ps (nextOffset o k v) (suc (i + nodes v)) (n + ordinals own v) (omega arith))
         ∙ sym (up-append n (ordinals own v) (ordinalsIn own ps))
 
 -- "Each value takes the next number, from 1, when its letter is met." The words 1 that are not 0 are 1, 2, 3 … in table order.

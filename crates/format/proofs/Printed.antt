@@ -14,12 +14,16 @@ use Rattle.decimal.proofs.Numerals.{areDigits, digit-low, digits-before, after-
 use Rattle.format.specs.Bytes.{byte}
 use Rattle.format.specs.Kind.{tag}
 use Rattle.format.specs.Tree.{leaf, ref, branch, none, pair, count, nodes, nodesIn}
-use Rattle.format.specs.Syntax.{intKey, stringKey, null, bool, int, float, string, array, object, Spelling, Sign, unsigned, plus, minus, Literal, Quoted, Key, Scalar, Container, Head, RefKind, objectRef, variableRef, refKind, Reference, Value, Values, writeNumber, writeSign, writeQuoted, writeKey, writeScalar, writeContainer, write, writePairs, print}
+use Rattle.format.specs.Syntax.{intKey, stringKey, null, bool, int, float, string, array, object, Spelling, Sign, unsigned, plus, minus, Literal, Quoted}
+use Rattle.format.specs.Syntax.{Key, Scalar, Container, Head, RefKind, objectRef, variableRef, refKind, Reference, Value, Values, writeNumber, writeSign}
+use Rattle.format.specs.Syntax.{writeQuoted, writeKey, writeScalar, writeContainer, write, writePairs, print}
 use Rattle.format.specs.Keys.{hasKey}
 use Rattle.format.specs.Limits.{numberLimit, sourceLimit, depthLimit, integerLimit, signOf, isFloat, Seen, unseen, seeBranch, see}
-use Rattle.format.specs.Fits.{IntFits, QuotedFits, KeyFits, ScalarFits, ContainerFits, allowed, Sound, SoundIn, Limited, LimitedIn, Backward, BackwardIn, Shallow, ShallowIn, Fits}
+use Rattle.format.specs.Fits.{IntFits, QuotedFits, KeyFits, ScalarFits, ContainerFits, allowed, Sound, SoundIn, Limited, LimitedIn, Backward, BackwardIn}
+use Rattle.format.specs.Fits.{Shallow, ShallowIn, Fits}
 use Rattle.format.specs.Answer.{ok}
-use Rattle.format.specs.Read.{digits, number, expect, intText, quotedText, boolText, floatText, referenceText, Setting, setting, position, isArray, keyText, Inner, readKey, readPairs, readBranch, readBody, readValue, read}
+use Rattle.format.specs.Read.{digits, number, expect, intText, quotedText, boolText, floatText, referenceText, Setting, setting, position, isArray}
+use Rattle.format.specs.Read.{keyText, Inner, readKey, readPairs, readBranch, readBody, readValue, read}
 use Rattle.format.proofs.Floats.{float-semicolon, until-semicolon}
 
 -- ---- texts
@@ -37,7 +41,8 @@ digits-printed l top z n c r h e =
       zeros,
     )
 
-pub number-printed : (l : ℕ) (w : Spelling) (n c : ℕ) (r : List ℕ) → n ≤ numberLimit → isDigit c ≡ false → number l (writeNumber w n (c ∷ r)) ≡ ok ((w, n), c ∷ r)
+pub number-printed : (l : ℕ) (w : Spelling) (n c : ℕ) (r : List ℕ) → n ≤ numberLimit → isDigit c ≡ false
+    → number l (writeNumber w n (c ∷ r)) ≡ ok ((w, n), c ∷ r)
 unfolding number
 number-printed l w n c r h e = rw (digits-printed l numberLimit (w .zeros) n c r h e)
 
@@ -52,10 +57,14 @@ sign-printed unsigned z n r = sign-digits (spelled z n) r (spelled-some z n) (sp
 sign-printed plus z n r = refl
 sign-printed minus z n r = refl
 
-pub int-printed : (l : ℕ) (x : Literal) (r : List ℕ) → IntFits x → intText l (byte ":" ∷ writeSign (x .sign) (spelled (x .zeros) (x .magnitude) ++ (byte ";" ∷ r))) ≡ ok (x, r)
+pub int-printed : (l : ℕ) (x : Literal) (r : List ℕ) → IntFits x
+    → intText l (byte ":" ∷ writeSign (x .sign) (spelled (x .zeros) (x .magnitude) ++ (byte ";" ∷ r))) ≡ ok (x, r)
 unfolding intText
 int-printed l x r h =
-    rw (sign-printed (x .sign) (x .zeros) (x .magnitude) (byte ";" ∷ r), digits-printed l (integerLimit (x .sign)) (x .zeros) (x .magnitude) (byte ";") r h refl)
+    rw (
+      sign-printed (x .sign) (x .zeros) (x .magnitude) (byte ";" ∷ r),
+      digits-printed l (integerLimit (x .sign)) (x .zeros) (x .magnitude) (byte ";") r h refl,
+    )
 
 -- closed by `"` and one byte more
 pub quoted-printed : (l c : ℕ) (q : Quoted) (r : List ℕ) → QuotedFits q → quotedText l (byte "\"" ∷ c ∷ []) (byte ":" ∷ writeQuoted q (c ∷ r)) ≡ ok (q, r)
@@ -83,26 +92,44 @@ reference-printed l seen n r f p q = rw (number-printed l (n .spelling) (n .name
 -- ---- values and pairs
 
 module _ (set : Setting) where
-  pub key-printed : (c : Container) (earlier : List Key) (before : ℕ) (k : Key) (r : List ℕ) → before < set .capacity → KeyFits k → T (allowed c k) → T (not (hasKey k earlier))
+  pub key-printed : (c : Container) (earlier : List Key) (before : ℕ) (k : Key) (r : List ℕ) → before < set .capacity → KeyFits k → T (allowed c k)
+      → T (not (hasKey k earlier))
       → readKey set (isArray c) earlier before (writeKey k r) ≡ ok (k, r)
   unfolding readKey keyText
-  key-printed array earlier before (intKey x) r b f a d = rw (lt-ltb before (set .capacity) b, int-printed (position set (writeKey (intKey x) r)) x r f, T-true (not (hasKey (intKey x) earlier)) d)
+  key-printed array earlier before (intKey x) r b f a d = rw (
+    lt-ltb before (set .capacity) b,
+    int-printed (position set (writeKey (intKey x) r)) x r f,
+    T-true (not (hasKey (intKey x) earlier)) d,
+  )
   key-printed array earlier before (stringKey q) r b f a d =
-      rw (lt-ltb before (set .capacity) b, quoted-printed (position set (writeKey (stringKey q) r)) (byte ";") q r f, T-true (not (hasKey (stringKey q) earlier)) d)
+      rw (
+        lt-ltb before (set .capacity) b,
+        quoted-printed (position set (writeKey (stringKey q) r)) (byte ";") q r f,
+        T-true (not (hasKey (stringKey q) earlier)) d,
+      )
   key-printed (object t) earlier before (intKey x) r b f a d = absurd a
   key-printed (object t) earlier before (stringKey q) r b f a d =
-      rw (lt-ltb before (set .capacity) b, quoted-printed (position set (writeKey (stringKey q) r)) (byte ";") q r f, T-true (not (hasKey (stringKey q) earlier)) d)
+      rw (
+        lt-ltb before (set .capacity) b,
+        quoted-printed (position set (writeKey (stringKey q) r)) (byte ";") q r f,
+        T-true (not (hasKey (stringKey q) earlier)) d,
+      )
 
-  pub scalar-printed : (d : ℕ) (seen : Seen) (before : ℕ) (x : Scalar) (r : List ℕ) → before < set .capacity → ScalarFits x → readValue set (suc d) seen before (writeScalar x r) ≡ ok (leaf x, r)
+  pub scalar-printed : (d : ℕ) (seen : Seen) (before : ℕ) (x : Scalar) (r : List ℕ) → before < set .capacity → ScalarFits x
+      → readValue set (suc d) seen before (writeScalar x r) ≡ ok (leaf x, r)
   unfolding readBody boolText
   scalar-printed d seen before null r b f = rw (lt-ltb before (set .capacity) b)
   scalar-printed d seen before (bool true) r b f = rw (lt-ltb before (set .capacity) b)
   scalar-printed d seen before (bool false) r b f = rw (lt-ltb before (set .capacity) b)
   scalar-printed d seen before (int x) r b f = rw (lt-ltb before (set .capacity) b, int-printed (position set (writeScalar (int x) r)) x r f)
   scalar-printed d seen before (float t) r b f = rw (lt-ltb before (set .capacity) b, float-printed (position set (writeScalar (float t) r)) t r f)
-  scalar-printed d seen before (string q) r b f = rw (lt-ltb before (set .capacity) b, quoted-printed (position set (writeScalar (string q) r)) (byte ";") q r f)
+  scalar-printed d seen before (string q) r b f = rw (
+    lt-ltb before (set .capacity) b,
+    quoted-printed (position set (writeScalar (string q) r)) (byte ";") q r f,
+  )
 
-  ref-printed : (k : RefKind) (n : Reference) (d : ℕ) (seen : Seen) (before : ℕ) (r : List ℕ) → n .kind ≡ k → before < set .capacity → n .named ≤ numberLimit → 1 ≤ n .named → n .named ≤ seen
+  ref-printed : (k : RefKind) (n : Reference) (d : ℕ) (seen : Seen) (before : ℕ) (r : List ℕ) → n .kind ≡ k → before < set .capacity → n .named ≤ numberLimit
+      → 1 ≤ n .named → n .named ≤ seen
       → readValue set (suc d) seen before (tag (refKind k) ∷ byte ":" ∷ writeNumber (n .spelling) (n .named) (byte ";" ∷ r)) ≡ ok (ref n, r)
   unfolding readBody
   ref-printed objectRef n d seen before r e b f p q = rw (lt-ltb before (set .capacity) b, ← e, reference-printed _ seen n r f p q)
@@ -110,15 +137,19 @@ module _ (set : Setting) where
 
   branch-printed : (inner : Inner) (h : Head) (ps : Values) (l : ℕ) (seen : Seen) (before : ℕ) (r : List ℕ) → count ps ≤ numberLimit
       → readPairs set inner (isArray (h .container)) (count ps) [] (seeBranch seen) (suc before) (writePairs ps (byte "}" ∷ r)) ≡ ok (ps, byte "}" ∷ r)
-      → readBranch set inner (h .container) l seen before (writeNumber (h .spelling) (count ps) (byte ":" ∷ byte "{" ∷ writePairs ps (byte "}" ∷ r))) ≡ ok (branch h ps, r)
+      → readBranch set inner (h .container) l seen before (writeNumber (h .spelling) (count ps) (byte ":" ∷ byte "{" ∷ writePairs ps (byte "}" ∷ r))) ≡ ok
+      (branch h ps, r)
   unfolding readBranch
   branch-printed inner h ps l seen before r f e = rw (number-printed l (h .spelling) (count ps) (byte ":") (byte "{" ∷ writePairs ps (byte "}" ∷ r)) f refl, e)
 
-  container-printed : (c : Container) (w : Spelling) (ps : Values) (d : ℕ) (seen : Seen) (before : ℕ) (r : List ℕ) → before < set .capacity → ContainerFits c → count ps ≤ numberLimit
+  container-printed : (c : Container) (w : Spelling) (ps : Values) (d : ℕ) (seen : Seen) (before : ℕ) (r : List ℕ) → before < set .capacity → ContainerFits c
+      → count ps ≤ numberLimit
       → readPairs set (readValue set d) (isArray c) (count ps) [] (seeBranch seen) (suc before) (writePairs ps (byte "}" ∷ r)) ≡ ok (ps, byte "}" ∷ r)
-      → readValue set (suc d) seen before (writeContainer c (writeNumber w (count ps) (byte ":" ∷ byte "{" ∷ writePairs ps (byte "}" ∷ r)))) ≡ ok (branch (record { container = c; spelling = w }) ps, r)
+      → readValue set (suc d) seen before (writeContainer c (writeNumber w (count ps) (byte ":" ∷ byte "{" ∷ writePairs ps (byte "}" ∷ r)))) ≡ ok
+      (branch (record { container = c; spelling = w }) ps, r)
   unfolding readBody
-  container-printed array w ps d seen before r b f c e = rw (lt-ltb before (set .capacity) b) (branch-printed (readValue set d) (record { container = array; spelling = w }) ps _ seen before r c e)
+  container-printed array w ps d seen before r b f c e = rw (lt-ltb before (set .capacity) b)
+      (branch-printed (readValue set d) (record { container = array; spelling = w }) ps _ seen before r c e)
   container-printed (object q) w ps d seen before r b f c e =
       rw (lt-ltb before (set .capacity) b, quoted-printed _ (byte ":") q (writeNumber w (count ps) (byte ":" ∷ byte "{" ∷ writePairs ps (byte "}" ∷ r))) f)
       (branch-printed (readValue set d) (record { container = object q; spelling = w }) ps _ seen before r c e)
@@ -129,7 +160,8 @@ module _ (set : Setting) where
   mutual
     unfolding write
 
-    value-printed : (v : Value) (d : ℕ) (seen : Seen) (before : ℕ) (r : List ℕ) → Sound v → Limited v → Backward seen v → Shallow d v → before + nodes v ≤ set .capacity
+    value-printed : (v : Value) (d : ℕ) (seen : Seen) (before : ℕ) (r : List ℕ) → Sound v → Limited v → Backward seen v → Shallow d v
+        → before + nodes v ≤ set .capacity
         → readValue set d seen before (write v r) ≡ ok (v, r)
     value-printed (leaf x) zero seen before r s i b h m = absurd (omega arith)
     value-printed (leaf x) (suc d) seen before r s i b h m = scalar-printed d seen before x r (omega arith) s

@@ -16,7 +16,8 @@ use Rattle.format.specs.Keys.{hasKey}
 use Rattle.format.specs.Limits.{numberLimit, sourceLimit, depthLimit, integerLimit, signOf, isFloat, Seen, unseen, seeBranch, see}
 use Rattle.format.specs.Answer.{Answer, ok, refused, _>>=_, require}
 use Rattle.format.specs.Reading.{RefusalRow}
-use Rattle.format.specs.Read.{kindOf, tagOf, expect, until, digits, number, intText, quotedText, boolText, floatText, referenceText, Setting, setting, position, isArray, keyText, Inner, readKey, readPairs, readBranch, readBody, readValue, read}
+use Rattle.format.specs.Read.{kindOf, tagOf, expect, until, digits, number, intText, quotedText, boolText, floatText, referenceText, Setting, setting}
+use Rattle.format.specs.Read.{position, isArray, keyText, Inner, readKey, readPairs, readBranch, readBody, readValue, read}
 
 module _ (size : ℕ) where
   abbrev pub Proper : {A : Type 0} → Answer A → Type 0
@@ -130,13 +131,16 @@ module _ (set : Setting) where
     readKey-proper ofArray earlier before [] = two (set .size) (position set []) (omega arith)
     readKey-proper ofArray earlier before (b ∷ s) =
         let l : ℕ = position set (b ∷ s) in
-        bind (set .size) (tagOf (keyKinds ofArray) 4 l (b ∷ s)) _ (bind (set .size) (kindOf (keyKinds ofArray) 4 l b) _ (tagged (set .size) l (here b s) (keyKinds ofArray) 4 b (omega arith) (omega arith)) (λ k. tt)) (λ k.
+        bind (set .size) (tagOf (keyKinds ofArray) 4 l (b ∷ s)) _
+        (bind (set .size) (kindOf (keyKinds ofArray) 4 l b) _ (tagged (set .size) l (here b s) (keyKinds ofArray) 4 b (omega arith) (omega arith))
+        (λ k. tt)) (λ k.
         ask (set .size) (ltb before (set .capacity)) 7 l _ (row (set .size) l (here b s) 7 (omega arith) (omega arith)) (λ u.
         bind (set .size) (keyText (k .0) l (k .1)) _ (key-proper (set .size) l (here b s) (k .0) (k .1)) (λ x.
         ask (set .size) (not (hasKey (x .0) earlier)) 9 l _ (row (set .size) l (here b s) 9 (omega arith) (omega arith)) (λ w. tt))))
 
     module _ (inner : Inner) (deeper : (seen : Seen) (before : ℕ) (s : List ℕ) → Ok (inner seen before s)) where
-      pairs-proper : (ofArray : Bool) (n : ℕ) (earlier : List Key) (seen : Seen) (before : ℕ) (s : List ℕ) → Ok (readPairs set inner ofArray n earlier seen before s)
+      pairs-proper : (ofArray : Bool) (n : ℕ) (earlier : List Key) (seen : Seen) (before : ℕ) (s : List ℕ)
+          → Ok (readPairs set inner ofArray n earlier seen before s)
       pairs-proper ofArray zero earlier seen before s = tt
       pairs-proper ofArray (suc n) earlier seen before s =
           bind (set .size) (readKey set ofArray earlier before s) _ (readKey-proper ofArray earlier before s) (λ k.
@@ -149,7 +153,8 @@ module _ (set : Setting) where
       branch-proper c l h seen before s =
           bind (set .size) (number l s) _ (number-proper (set .size) l h s) (λ n.
           next (set .size) l h (bytes ":{") (n .1) _ (λ s₂.
-          bind (set .size) (readPairs set inner (isArray c) (n .0 .1) [] (seeBranch seen) (suc before) s₂) _ (pairs-proper (isArray c) (n .0 .1) [] (seeBranch seen) (suc before) s₂) (λ ps.
+          bind (set .size) (readPairs set inner (isArray c) (n .0 .1) [] (seeBranch seen) (suc before) s₂) _
+          (pairs-proper (isArray c) (n .0 .1) [] (seeBranch seen) (suc before) s₂) (λ ps.
           next (set .size) l h (bytes "}") (ps .1) _ (λ s₄. tt))))
 
       body-proper : (k : Kind) (l : ℕ) (h : l < set .size) (seen : Seen) (before : ℕ) (s : List ℕ) → Ok (readBody set inner k l seen before s)
@@ -160,24 +165,31 @@ module _ (set : Setting) where
       body-proper Kind.float l h seen before s = bind (set .size) (floatText l s) _ (float-proper (set .size) l h s) (λ a. tt)
       body-proper Kind.string l h seen before s = bind (set .size) (quotedText l (bytes "\";") s) _ (quoted-proper (set .size) l h (bytes "\";") s) (λ a. tt)
       body-proper Kind.array l h seen before s = next (set .size) l h (bytes ":") s _ (λ a. branch-proper array l h seen before a)
-      body-proper Kind.object l h seen before s = bind (set .size) (quotedText l (bytes "\":") s) _ (quoted-proper (set .size) l h (bytes "\":") s) (λ a. branch-proper (object (a .0)) l h seen before (a .1))
-      body-proper Kind.objectReference l h seen before s = bind (set .size) (referenceText objectRef l seen s) _ (reference-proper (set .size) l h objectRef seen s) (λ a. tt)
-      body-proper Kind.variableReference l h seen before s = bind (set .size) (referenceText variableRef l seen s) _ (reference-proper (set .size) l h variableRef seen s) (λ a. tt)
+      body-proper Kind.object l h seen before s = bind (set .size) (quotedText l (bytes "\":") s) _ (quoted-proper (set .size) l h (bytes "\":") s)
+          (λ a. branch-proper (object (a .0)) l h seen before (a .1))
+      body-proper Kind.objectReference l h seen before s = bind (set .size) (referenceText objectRef l seen s) _
+          (reference-proper (set .size) l h objectRef seen s) (λ a. tt)
+      body-proper Kind.variableReference l h seen before s = bind (set .size) (referenceText variableRef l seen s) _
+          (reference-proper (set .size) l h variableRef seen s) (λ a. tt)
 
     value-proper : (d : ℕ) (seen : Seen) (before : ℕ) (s : List ℕ) → Ok (readValue set d seen before s)
     value-proper zero seen before [] = two (set .size) (position set []) (omega arith)
     value-proper (suc d) seen before [] = two (set .size) (position set []) (omega arith)
     value-proper zero seen before (b ∷ s) =
         let l : ℕ = position set (b ∷ s) in
-        bind (set .size) (tagOf kinds 3 l (b ∷ s)) _ (bind (set .size) (kindOf kinds 3 l b) _ (tagged (set .size) l (here b s) kinds 3 b (omega arith) (omega arith)) (λ k. tt)) (λ k. row (set .size) l (here b s) 8 (omega arith) (omega arith))
+        bind (set .size) (tagOf kinds 3 l (b ∷ s)) _
+        (bind (set .size) (kindOf kinds 3 l b) _ (tagged (set .size) l (here b s) kinds 3 b (omega arith) (omega arith)) (λ k. tt))
+        (λ k. row (set .size) l (here b s) 8 (omega arith) (omega arith))
     value-proper (suc d) seen before (b ∷ s) =
         let l : ℕ = position set (b ∷ s) in
-        bind (set .size) (tagOf kinds 3 l (b ∷ s)) _ (bind (set .size) (kindOf kinds 3 l b) _ (tagged (set .size) l (here b s) kinds 3 b (omega arith) (omega arith)) (λ k. tt)) (λ k.
+        bind (set .size) (tagOf kinds 3 l (b ∷ s)) _
+        (bind (set .size) (kindOf kinds 3 l b) _ (tagged (set .size) l (here b s) kinds 3 b (omega arith) (omega arith)) (λ k. tt)) (λ k.
         ask (set .size) (ltb before (set .capacity)) 7 l _ (row (set .size) l (here b s) 7 (omega arith) (omega arith)) (λ u.
         body-proper (readValue set d) (λ x y z. value-proper d x y z) (k .0) l (here b s) seen before (k .1)))
 
 -- the first byte behind the plan
-behind : {B : Type 0} (set : Setting) (s : List ℕ) (f : Unit {0} → Answer B) → 0 < set .size → ((x : Unit {0}) → Proper (set .size) (f x)) → Proper (set .size) (require (isEmpty s) 10 (position set s) >>= f)
+behind : {B : Type 0} (set : Setting) (s : List ℕ) (f : Unit {0} → Answer B) → 0 < set .size → ((x : Unit {0}) → Proper (set .size) (f x))
+    → Proper (set .size) (require (isEmpty s) 10 (position set s) >>= f)
 behind set [] f h g = g tt
 behind set (b ∷ s) f h g = row (set .size) (position set (b ∷ s)) (omega arith) 10 (omega arith) (omega arith)
 

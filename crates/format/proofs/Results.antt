@@ -28,7 +28,10 @@ flat-length (n ∷ ns) = omega (arith, flat-length ns)
 -- "Words after the last node keep what they held": the words of the nodes, then what the table held
 pub after-accepted : (source t : List ℕ) (v : Value) → read (capacityOf t) source ≡ ok v → tableAfter source t ≡ flat (tableOf v) ++ drop (nodes v * width) t
 unfolding tableAfter
-after-accepted source t v e = rw (e, filled) (ap (λ (n : ℕ). flat (tableOf v) ++ drop n t) (flat-length (tableOf v) ∙ ap (λ (n : ℕ). n * width) (tableOf-length v)))
+after-accepted source t v e = rw (
+  e,
+  filled,
+) (ap (λ (n : ℕ). flat (tableOf v) ++ drop n t) (flat-length (tableOf v) ∙ ap (λ (n : ℕ). n * width) (tableOf-length v)))
 
 -- "A refusal … makes every word of the table zero"
 pub after-refused : (source t : List ℕ) (n p : ℕ) → read (capacityOf t) source ≡ refused n p → tableAfter source t ≡ replicate (length t) 0
@@ -46,7 +49,8 @@ pub answer-counts : (capacity : ℕ) (source : List ℕ) (v : Value) → read ca
     → answer capacity source ≡ ok (record { nodes = length (tableOf v); ordinals = length (ordinalsOf (tableOf v)) })
 unfolding answer
 answer-counts capacity source v e =
-    rw e (ap₂ (λ (a b : ℕ). ok (record { nodes = a; ordinals = b })) (sym (tableOf-length v)) (sym (ap length (ordinals-in-order v) ∙ up-length 1 (ordinals own v))))
+    rw e (ap₂ (λ (a b : ℕ). ok (record { nodes = a; ordinals = b })) (sym (tableOf-length v))
+    (sym (ap length (ordinals-in-order v) ∙ up-length 1 (ordinals own v))))
 
 -- ---- the table keeps its length
 over-length : (ws t : List ℕ) → length ws ≤ length t → length (over ws t) ≡ length t

@@ -6,19 +6,25 @@ use Prim.Native.Nat.{ℕ, suc, _+_, _-_, _≤_, _<_}
 use native.Mathlib.Omega.{arith}
 use lib.ListN.{length, getD, take, drop, List·getD-map}
 use Rattle.format.specs.Kind.{Kind, tag}
-use Rattle.format.specs.Tree.{leaf, ref, branch, none, pair, TreePath, count, nodes, nodesIn, only, one, ordinals, ordinalsIn, paths, pathsIn, mapTree, mapPairs}
-use Rattle.format.specs.Syntax.{intKey, stringKey, null, bool, int, float, string, array, object, mapContainer, Literal, Quoted, Key, Scalar, Container, RefKind, objectRef, variableRef, refKind, Reference, Value, Values, own, writeKey, writeScalar, writeContainer, writeNumber, write, writePairs, print}
+use Rattle.format.specs.Tree.{leaf, ref, branch, none, pair, TreePath, count, nodes, nodesIn, only, one, ordinals, ordinalsIn, paths, pathsIn, mapTree}
+use Rattle.format.specs.Tree.{mapPairs}
+use Rattle.format.specs.Syntax.{intKey, stringKey, null, bool, int, float, string, array, object, mapContainer, Literal, Quoted, Key, Scalar, Container}
+use Rattle.format.specs.Syntax.{RefKind, objectRef, variableRef, refKind, Reference, Value, Values, own, writeKey, writeScalar, writeContainer}
+use Rattle.format.specs.Syntax.{writeNumber, write, writePairs, print}
 use Rattle.format.specs.Keys.{integer, keyMeaning}
 use Rattle.format.specs.Fits.{IntFits, KeyFits, ScalarFits, Sound, SoundIn, Valid}
 use Rattle.format.specs.Meaning.{meaning, scalarMeaning, headMeaning, referenceMeaning}
-use Rattle.format.specs.Table.{Node, word, keyNode, scalarNode, branchNode, taken, refNode, table, indices, indicesIn, targetOf, tableOf, pairsOffset, valueOffset, nextOffset}
-use Rattle.format.specs.Shows.{integerOf, Pattern, upFrom, nodeAt, pairAt, follow, Row, WithOrdinal, Text, ShowsKey, ShowsScalar, ShowsHead, Taking, ShowsReference, Shows, ShowsIn}
+use Rattle.format.specs.Table.{Node, word, keyNode, scalarNode, branchNode, taken, refNode, table, indices, indicesIn, targetOf, tableOf, pairsOffset}
+use Rattle.format.specs.Table.{valueOffset, nextOffset}
+use Rattle.format.specs.Shows.{integerOf, Pattern, upFrom, nodeAt, pairAt, follow, Row, WithOrdinal, Text, ShowsKey, ShowsScalar, ShowsHead, Taking}
+use Rattle.format.specs.Shows.{ShowsReference, Shows, ShowsIn}
 use Rattle.format.proofs.Words.{word-back}
 use Rattle.format.proofs.Maps.{Refs, RefsIn, refs-map, count-map, nodesIn-map}
 use Rattle.format.proofs.OneText.{Taken, refs-taken}
 use Rattle.format.proofs.Rows.{at-first, scalar-carries, branch-carries}
 use Rattle.format.proofs.Ordinals.{up-append, up-at}
-use Rattle.format.proofs.Places.{InTable, PairsInTable, contents-in, first-in, others-in, contents-text, value-text, others-text, quoted-text, float-text}
+use Rattle.format.proofs.Places.{InTable, PairsInTable, contents-in, first-in, others-in, contents-text, value-text, others-text, quoted-text}
+use Rattle.format.proofs.Places.{float-text}
 
 module _ (rows : List Node) (to : ℕ → ℕ) where
   -- ---- the first node of a value
@@ -58,7 +64,8 @@ module _ (rows : List Node) (to : ℕ → ℕ) where
         (pathsIn-lead ps (pairsOffset o h (count ps)) i (suc i) 0 (suc n) (contents-in rows to o i n h ps t) refl)
 
     -- of the pairs of the value at node i, those from place q on, which begin at node j
-    pathsIn-lead : (ps : Values) (o i j q n : ℕ) → PairsInTable rows to o j n ps → pairAt rows (suc i) q ≡ j → map (follow rows i) (pathsIn own q ps) ≡ indicesIn j ps
+    pathsIn-lead : (ps : Values) (o i j q n : ℕ) → PairsInTable rows to o j n ps → pairAt rows (suc i) q ≡ j
+        → map (follow rows i) (pathsIn own q ps) ≡ indicesIn j ps
     pathsIn-lead none o i j q n t e = refl
     pathsIn-lead (pair k v ps) o i j q n t e =
         let f = first-in rows to o j n k v ps t in
@@ -81,7 +88,8 @@ module _ (rows : List Node) (to : ℕ → ℕ) where
     indices-carry (leaf x) o i n t = only-ordinal true i n (ap (λ (y : Node). y .ordinal) (node-is (leaf x) o i n t) ∙ scalar-carries o i n x .ordinal)
     indices-carry (ref r) o i n t = only-ordinal (own r) i n (ap (λ (y : Node). y .ordinal) (node-is (ref r) o i n t))
     indices-carry (branch h ps) o i n t =
-        ap₂ {C = List ℕ} _∷_ (ap (λ (y : Node). y .ordinal) (node-is (branch h ps) o i n t) ∙ branch-carries o n (h .container) (count ps) (i + suc (nodesIn ps)) .ordinal)
+        ap₂ {C = List ℕ} _∷_ (ap (λ (y : Node). y .ordinal) (node-is (branch h ps) o i n t)
+        ∙ branch-carries o n (h .container) (count ps) (i + suc (nodesIn ps)) .ordinal)
         (indicesIn-carry ps (pairsOffset o h (count ps)) (suc i) (suc n) (contents-in rows to o i n h ps t))
 
     indicesIn-carry : (ps : Values) (o i n : ℕ) → PairsInTable rows to o i n ps → map ordinalAt (indicesIn i ps) ≡ upFrom n (ordinalsIn own ps)
@@ -95,7 +103,12 @@ module _ (rows : List Node) (to : ℕ → ℕ) where
   -- ---- what the nodes show
   row-is : (i : ℕ) (k : Kind) (x : Node) → nodeAt rows i ≡ x → x .tag ≡ tag k → Row rows i k (x .size) (x .link) (x .end)
   row-is i k x e t =
-      record { tag = ap (λ (y : Node). y .tag) e ∙ t; size = ap (λ (y : Node). y .size) e; link = ap (λ (y : Node). y .link) e; end = ap (λ (y : Node). y .end) e }
+      record {
+        tag = ap (λ (y : Node). y .tag) e ∙ t;
+        size = ap (λ (y : Node). y .size) e;
+        link = ap (λ (y : Node). y .link) e;
+        end = ap (λ (y : Node). y .end) e;
+      }
 
   ordinal-is : (i : ℕ) (x : Node) → nodeAt rows i ≡ x → ordinalAt i ≡ x .ordinal
   ordinal-is i x e = ap (λ (y : Node). y .ordinal) e
@@ -120,29 +133,49 @@ module _ (source : List ℕ) (rows : List Node) (to : ℕ → ℕ) where
   int-shown : (i : ℕ) (x : Literal) → nodeAt rows i .content ≡ word (integer x) → IntFits x → Pattern rows i (integer x)
   int-shown i x e f = (e, ap integerOf e ∙ word-back x f)
 
-  key-shown : (k : Key) (o i : ℕ) (r : List ℕ) → nodeAt rows i ≡ keyNode o i k → KeyFits k → drop o source ≡ writeKey k r → ShowsKey source rows i (keyMeaning k)
+  key-shown : (k : Key) (o i : ℕ) (r : List ℕ) → nodeAt rows i ≡ keyNode o i k → KeyFits k → drop o source ≡ writeKey k r
+      → ShowsKey source rows i (keyMeaning k)
   key-shown (intKey x) o i r e f s = (row-is rows to i Kind.int _ e refl, ordinal-is rows to i _ e, int-shown i x (content-is rows to i _ e) f)
-  key-shown (stringKey q) o i r e f s = (row-is rows to i Kind.string _ e refl, ordinal-is rows to i _ e, text-shown i _ (q .text) e (quoted-text source o 115 q (59 ∷ r) s))
+  key-shown (stringKey q) o i r e f s = (
+    row-is rows to i Kind.string _ e refl,
+    ordinal-is rows to i _ e,
+    text-shown i _ (q .text) e (quoted-text source o 115 q (59 ∷ r) s),
+  )
 
-  scalar-shown : (x : Scalar) (o i n : ℕ) (r : List ℕ) → nodeAt rows i ≡ scalarNode o i n x → 1 ≤ n → ScalarFits x → drop o source ≡ writeScalar x r → ShowsScalar source rows i (scalarMeaning x)
+  scalar-shown : (x : Scalar) (o i n : ℕ) (r : List ℕ) → nodeAt rows i ≡ scalarNode o i n x → 1 ≤ n → ScalarFits x → drop o source ≡ writeScalar x r
+      → ShowsScalar source rows i (scalarMeaning x)
   scalar-shown null o i n r e h f s = (row-is rows to i Kind.null _ e refl, with-ordinal rows to i _ e h, content-is rows to i _ e)
   scalar-shown (bool b) o i n r e h f s = (row-is rows to i Kind.bool _ e refl, with-ordinal rows to i _ e h, content-is rows to i _ e)
   scalar-shown (int x) o i n r e h f s = (row-is rows to i Kind.int _ e refl, with-ordinal rows to i _ e h, int-shown i x (content-is rows to i _ e) f)
-  scalar-shown (float t) o i n r e h f s = (row-is rows to i Kind.float _ e refl, with-ordinal rows to i _ e h, text-shown i _ t e (float-text source o 100 t r s))
-  scalar-shown (string q) o i n r e h f s = (row-is rows to i Kind.string _ e refl, with-ordinal rows to i _ e h, text-shown i _ (q .text) e (quoted-text source o 115 q (59 ∷ r) s))
+  scalar-shown (float t) o i n r e h f s = (
+    row-is rows to i Kind.float _ e refl,
+    with-ordinal rows to i _ e h,
+    text-shown i _ t e (float-text source o 100 t r s),
+  )
+  scalar-shown (string q) o i n r e h f s = (
+    row-is rows to i Kind.string _ e refl,
+    with-ordinal rows to i _ e h,
+    text-shown i _ (q .text) e (quoted-text source o 115 q (59 ∷ r) s),
+  )
 
   head-shown : (c : Container) (o i n pairs e : ℕ) (r : List ℕ) → nodeAt rows i ≡ branchNode o n c pairs e → 1 ≤ n → drop o source ≡ writeContainer c r
       → ShowsHead source rows i pairs e (mapContainer (λ (q : Quoted). q .text) c)
   head-shown array o i n pairs e r p h s = (row-is rows to i Kind.array _ p refl, with-ordinal rows to i _ p h, content-is rows to i _ p)
-  head-shown (object q) o i n pairs e r p h s = (row-is rows to i Kind.object _ p refl, with-ordinal rows to i _ p h, text-shown i _ (q .text) p (quoted-text source o 79 q (58 ∷ r) s))
+  head-shown (object q) o i n pairs e r p h s = (
+    row-is rows to i Kind.object _ p refl,
+    with-ordinal rows to i _ p h,
+    text-shown i _ (q .text) p (quoted-text source o 79 q (58 ∷ r) s),
+  )
 
   -- where `env` gives the paths of the ordinals
   module _ (env : List TreePath) where
-    taking : (k : RefKind) (i n : ℕ) → 1 ≤ n → ordinalAt rows to i ≡ taken (own (record { kind = k; spelling = record { zeros = 0 }; named = 0 })) n → Taking rows k i
+    taking : (k : RefKind) (i n : ℕ) → 1 ≤ n → ordinalAt rows to i ≡ taken (own (record { kind = k; spelling = record { zeros = 0 }; named = 0 })) n
+        → Taking rows k i
     taking objectRef i n h e = omega arith
     taking variableRef i n h e = e
 
-    reference-shown : (r : Reference) (i n : ℕ) → nodeAt rows i ≡ refNode (to (r .named)) i n r → 1 ≤ n → Resolved rows to env r → ShowsReference rows i (referenceMeaning env r)
+    reference-shown : (r : Reference) (i n : ℕ) → nodeAt rows i ≡ refNode (to (r .named)) i n r → 1 ≤ n → Resolved rows to env r
+        → ShowsReference rows i (referenceMeaning env r)
     reference-shown r i n e h g =
         let row = row-is rows to i (refKind (r .kind)) (refNode (to (r .named)) i n r) e refl in
         let content : nodeAt rows i .content ≡ r .named = content-is rows to i _ e in
@@ -161,14 +194,19 @@ module _ (source : List ℕ) (rows : List Node) (to : ℕ → ℕ) where
       shows (leaf x) o i n r t h f s g = scalar-shown x o i n r (node-is rows to (leaf x) o i n t) h f s
       shows (ref x) o i n r t h f s g = reference-shown x i n (node-is rows to (ref x) o i n t) h g
       shows (branch b ps) o i n r t h f s g = (
-        rw (count-map keyMeaning scalarMeaning headMeaning (referenceMeaning env) ps, nodesIn-map keyMeaning scalarMeaning headMeaning (referenceMeaning env) ps)
-            (head-shown (b .container) o i n (count ps) (i + suc (nodesIn ps)) (writeNumber (b .spelling) (count ps) (58 ∷ 123 ∷ writePairs ps (125 ∷ r))) (node-is rows to (branch b ps) o i n t) h s),
+        rw (
+          count-map keyMeaning scalarMeaning headMeaning (referenceMeaning env) ps,
+          nodesIn-map keyMeaning scalarMeaning headMeaning (referenceMeaning env) ps,
+        )
+            (head-shown (b .container) o i n (count ps) (i + suc (nodesIn ps)) (writeNumber (b .spelling) (count ps) (58 ∷ 123 ∷ writePairs ps (125 ∷ r)))
+            (node-is rows to (branch b ps) o i n t) h s),
         showsIn ps (pairsOffset o b (count ps)) (suc i) (suc i) (suc n) (125 ∷ r) (contents-in rows to o i n b ps t) (omega arith) (b .container) [] (f .1)
             (contents-text source o b (count ps) (writePairs ps (125 ∷ r)) s) g refl,
       )
 
       -- the index is what the node before says
-      showsIn : (ps : Values) (o i j n : ℕ) (r : List ℕ) → PairsInTable rows to o i n ps → 1 ≤ n → (c : Container) (earlier : List Key) → SoundIn c earlier ps → drop o source ≡ writePairs ps r → RefsIn (Resolved rows to env) ps → j ≡ i
+      showsIn : (ps : Values) (o i j n : ℕ) (r : List ℕ) → PairsInTable rows to o i n ps → 1 ≤ n → (c : Container) (earlier : List Key) → SoundIn c earlier ps
+          → drop o source ≡ writePairs ps r → RefsIn (Resolved rows to env) ps → j ≡ i
           → ShowsIn source rows j (mapPairs keyMeaning scalarMeaning headMeaning (referenceMeaning env) ps)
       showsIn none o i j n r t h c js f s g e = tt
       showsIn (pair k v ps) o i j n r t h c js f s g e =
@@ -177,7 +215,8 @@ module _ (source : List ℕ) (rows : List Node) (to : ℕ → ℕ) where
           rw e (
             key-shown k o i (write v (writePairs ps r)) (at-first rows i (keyNode o i k) _ _ (t .here)) (f .0) s,
             shows v (valueOffset o k) (suc i) n (writePairs ps r) w h (f .3) (value-text source o k (write v (writePairs ps r)) s) (g .0),
-            showsIn ps (nextOffset o k v) (suc (i + nodes v)) (nodeAt rows (suc i) .end) (n + ordinals own v) r (others-in rows to o i n k v ps t) (omega arith) c (k ∷ js) (f .4) (others-text source o k v (writePairs ps r) s) (g .1) next,
+            showsIn ps (nextOffset o k v) (suc (i + nodes v)) (nodeAt rows (suc i) .end) (n + ordinals own v) r (others-in rows to o i n k v ps t)
+                (omega arith) c (k ∷ js) (f .4) (others-text source o k v (writePairs ps r) s) (g .1) next,
           )
 
 -- ---- the whole table
@@ -202,7 +241,8 @@ module _ (v : Value) where
   resolved r t = record { leads = leads (r .named - 1); carries = carries (r .named - 1) (omega arith) ∙ omega arith; least = t .0 }
 
   all-resolved : Valid v → Refs (Resolved rows (targetOf v) (paths own v)) v
-  all-resolved f = refs-map (Taken (ordinals own v)) (Resolved rows (targetOf v) (paths own v)) resolved v (refs-taken (ordinals own v) v 0 (f .backward) (omega arith))
+  all-resolved f = refs-map (Taken (ordinals own v)) (Resolved rows (targetOf v) (paths own v)) resolved v
+      (refs-taken (ordinals own v) v 0 (f .backward) (omega arith))
 
 -- Demand 2: "The table then holds its one meaning, each reference resolved."
 pub table-says : (v : Value) → Valid v → Shows (print v) (tableOf v) 0 (meaning v)

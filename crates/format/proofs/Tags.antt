@@ -34,7 +34,8 @@ none-of (k ∷ []) b n = first-not k [] b n
 none-of (k ∷ (j ∷ ks)) b n = none-of (j ∷ ks) b (λ r. n (inr r)) ∙ first-not k (j ∷ ks) b (λ e. n (inl e))
 
 -- a fact for each kind
-pub each : (P : Kind → Type 0) → P Kind.null → P Kind.bool → P Kind.int → P Kind.float → P Kind.string → P Kind.array → P Kind.object → P Kind.objectReference → P Kind.variableReference → (k : Kind) → P k
+pub each : (P : Kind → Type 0) → P Kind.null → P Kind.bool → P Kind.int → P Kind.float → P Kind.string → P Kind.array → P Kind.object → P Kind.objectReference
+    → P Kind.variableReference → (k : Kind) → P k
 each P a b c d e f g h i Kind.null = a
 each P a b c d e f g h i Kind.bool = b
 each P a b c d e f g h i Kind.int = c

@@ -14,7 +14,8 @@ use Rattle.decimal.proofs.Numerals.{digits-are, digits-split, spelling, spelled
 use Rattle.format.specs.Bytes.{byte, bytes, sameBytes}
 use Rattle.format.specs.Kind.{Kind, tag, keyKinds}
 use Rattle.format.specs.Tree.{ref}
-use Rattle.format.specs.Syntax.{intKey, stringKey, int, string, array, object, Spelling, Sign, Literal, Quoted, Key, Container, RefKind, refKind, Reference, writeNumber, writeSign, writeQuoted, writeInt, writeKey, bit, write}
+use Rattle.format.specs.Syntax.{intKey, stringKey, int, string, array, object, Spelling, Sign, Literal, Quoted, Key, Container, RefKind, refKind}
+use Rattle.format.specs.Syntax.{Reference, writeNumber, writeSign, writeQuoted, writeInt, writeKey, bit, write}
 use Rattle.format.specs.Limits.{numberLimit, integerLimit, signOf, isFloat, Seen}
 use Rattle.format.specs.Fits.{IntFits, QuotedFits, KeyFits, allowed}
 use Rattle.format.specs.Answer.{ok, require}
@@ -109,7 +110,8 @@ int-ok l s q e =
     let nb = digits-ok l (integerLimit sg) (signOf (a .0) .1) (b .0) (b .1) in
     subst (GotInt s) (ok-same (c .2)) (record {
       text = ap {B = List ℕ} (λ x. 105 ∷ x) (expect-ok l (bytes ":") s (a .0) (a .1) ∙ ap {B = List ℕ} (λ x. 58 ∷ x)
-          (sign-split (a .0) ∙ ap (writeSign sg) (nb .text ∙ ap (λ (x : List ℕ). spelled (b .0 .0 .0) (b .0 .0 .1) ++ x) (expect-ok l (bytes ";") (b .0 .1) (c .0) (c .1)))));
+          (sign-split (a .0) ∙ ap (writeSign sg)
+          (nb .text ∙ ap (λ (x : List ℕ). spelled (b .0 .0 .0) (b .0 .0 .1) ++ x) (expect-ok l (bytes ";") (b .0 .1) (c .0) (c .1)))));
       fits = nb .fits;
     })
 
@@ -131,15 +133,19 @@ quoted-ok l c s q e =
     let nb = number-ok l (a .0) (b .0) (b .1) in
     let t : List ℕ = take n (d .0) in
     let len : length t ≡ n = length-take-le n (d .0) (leb→le n (length (d .0)) (require-ok (leb n (length (d .0))) 2 l (f .0) (f .1))) in
-    let cut : d .0 ≡ t ++ (34 ∷ c ∷ g .0) = sym (take-append-drop n (d .0)) ∙ ap (λ (x : List ℕ). t ++ x) (expect-ok l (byte "\"" ∷ c ∷ []) (drop n (d .0)) (g .0) (g .1)) in
+    let cut : d .0 ≡ t ++ (34 ∷ c ∷ g .0) = sym (take-append-drop n (d .0))
+    ∙ ap (λ (x : List ℕ). t ++ x) (expect-ok l (byte "\"" ∷ c ∷ []) (drop n (d .0)) (g .0) (g .1)) in
     subst (GotQuoted c s) (ok-same (g .2)) (record {
-      text = expect-ok l (bytes ":") s (a .0) (a .1) ∙ ap {B = List ℕ} (λ x. 58 ∷ x) (nb .text ∙ ap (writeNumber w n) (expect-ok l (bytes ":\"") (b .0 .1) (d .0) (d .1) ∙ ap (λ (x : List ℕ). 58 ∷ 34 ∷ x) cut)
+      text = expect-ok l (bytes ":") s (a .0) (a .1)
+          ∙ ap {B = List ℕ} (λ x. 58 ∷ x)
+          (nb .text ∙ ap (writeNumber w n) (expect-ok l (bytes ":\"") (b .0 .1) (d .0) (d .1) ∙ ap (λ (x : List ℕ). 58 ∷ 34 ∷ x) cut)
           ∙ ap (λ (m : ℕ). writeNumber w m (58 ∷ 34 ∷ t ++ (34 ∷ c ∷ g .0))) (sym len));
       fits = rw len (nb .fits);
     })
 
 -- one byte, 0 or 1
-bit-ok : (s r : List ℕ) → T (sameBytes (take 1 s) (bytes "0") || sameBytes (take 1 s) (bytes "1")) → drop 1 s ≡ r → s ≡ bit (sameBytes (take 1 s) (bytes "1")) ∷ r
+bit-ok : (s r : List ℕ) → T (sameBytes (take 1 s) (bytes "0") || sameBytes (take 1 s) (bytes "1")) → drop 1 s ≡ r
+    → s ≡ bit (sameBytes (take 1 s) (bytes "1")) ∷ r
 bit-ok [] r u e = absurd u
 bit-ok (b ∷ s) r u e = go (test (eqb b 48)) (test (eqb b 49))
   where
@@ -156,7 +162,8 @@ bool-ok l s q e =
     let t : Bool = sameBytes (take 1 (a .0)) (bytes "0") || sameBytes (take 1 (a .0)) (bytes "1") in
     let b = bind-ok (require t 2 l) _ q (a .2) in
     let c = bind-ok (expect l (bytes ";") (drop 1 (a .0))) _ q (b .2) in
-    expect-ok l (bytes ":") s (a .0) (a .1) ∙ ap {B = List ℕ} (λ x. 58 ∷ x) (bit-ok (a .0) (59 ∷ c .0) (require-ok t 2 l (b .0) (b .1)) (expect-ok l (bytes ";") (drop 1 (a .0)) (c .0) (c .1)))
+    expect-ok l (bytes ":") s (a .0) (a .1)
+    ∙ ap {B = List ℕ} (λ x. 58 ∷ x) (bit-ok (a .0) (59 ∷ c .0) (require-ok t 2 l (b .0) (b .1)) (expect-ok l (bytes ";") (drop 1 (a .0)) (c .0) (c .1)))
     ∙ ap (λ (x : Bool × List ℕ). 58 ∷ bit (x .0) ∷ 59 ∷ x .1) (ok-same (c .2))
 
 pub record GotFloat (s : List ℕ) (q : List ℕ × List ℕ) : Type 0 where
@@ -171,7 +178,8 @@ float-ok l s q e =
     let b = bind-ok (require (isFloat t) 2 l) _ q (a .2) in
     let c = bind-ok (expect l (bytes ";") (drop (length t) (a .0))) _ q (b .2) in
     subst (GotFloat s) (ok-same (c .2)) (record {
-      text = expect-ok l (bytes ":") s (a .0) (a .1) ∙ ap {B = List ℕ} (λ x. 58 ∷ x) (until-split (a .0) ∙ ap (λ (x : List ℕ). t ++ x) (expect-ok l (bytes ";") (drop (length t) (a .0)) (c .0) (c .1)));
+      text = expect-ok l (bytes ":") s (a .0) (a .1)
+          ∙ ap {B = List ℕ} (λ x. 58 ∷ x) (until-split (a .0) ∙ ap (λ (x : List ℕ). t ++ x) (expect-ok l (bytes ";") (drop (length t) (a .0)) (c .0) (c .1)));
       fits = require-ok (isFloat t) 2 l (b .0) (b .1);
     })
 
@@ -192,7 +200,8 @@ reference-ok k l seen s q e =
     let nb = number-ok l (a .0) (b .0) (b .1) in
     let t = require-ok (ltb 0 n && leb n seen) 6 l (g .0) (g .1) in
     subst (GotReference k seen s) (ok-same (g .2)) (record {
-      text = ap {B = List ℕ} (λ x. tag (refKind k) ∷ x) (expect-ok l (bytes ":") s (a .0) (a .1) ∙ ap {B = List ℕ} (λ x. 58 ∷ x) (nb .text ∙ ap (writeNumber (b .0 .0 .0) n) (expect-ok l (bytes ";") (b .0 .1) (c .0) (c .1))));
+      text = ap {B = List ℕ} (λ x. tag (refKind k) ∷ x) (expect-ok l (bytes ":") s (a .0) (a .1)
+          ∙ ap {B = List ℕ} (λ x. 58 ∷ x) (nb .text ∙ ap (writeNumber (b .0 .0 .0) n) (expect-ok l (bytes ";") (b .0 .1) (c .0) (c .1))));
       fits = nb .fits;
       least = ltb→lt 0 n (and-left (ltb 0 n) (leb n seen) t);
       most = leb→le n seen (and-right (ltb 0 n) (leb n seen) t);
@@ -233,6 +242,8 @@ string-allowed : (t : Quoted) (k : Key) (r s : List ℕ) → tag Kind.string ∷
 string-allowed t (intKey x) r s e = let z : _≡_ {A = ℕ} (tag Kind.string) (tag Kind.int) = cc in omega arith
 string-allowed t (stringKey q) r s e = tt
 
-pub key-allowed : (c : Container) (l : ℕ) (s : List ℕ) (a : Kind × List ℕ) (k : Key) (r : List ℕ) → tagOf (keyKinds (isArray c)) 4 l s ≡ ok a → tag (a .0) ∷ a .1 ≡ writeKey k r → T (allowed c k)
+pub key-allowed : (c : Container) (l : ℕ) (s : List ℕ) (a : Kind × List ℕ) (k : Key) (r : List ℕ) → tagOf (keyKinds (isArray c)) 4 l s ≡ ok a
+    → tag (a .0) ∷ a .1 ≡ writeKey k r → T (allowed c k)
 key-allowed array l s a k r e f = tt
-key-allowed (object t) l s a k r e f = string-allowed t k r (a .1) (ap (λ (x : Kind). tag x ∷ a .1) (sym (List·Memᴰ·eq-of-singleton (tag-ok (keyKinds false) 4 l s a e .among))) ∙ f)
+key-allowed (object t) l s a k r e f = string-allowed t k r (a .1)
+    (ap (λ (x : Kind). tag x ∷ a .1) (sym (List·Memᴰ·eq-of-singleton (tag-ok (keyKinds false) 4 l s a e .among))) ∙ f)

@@ -22,7 +22,8 @@ accepted-exactly capacity source v = (read-ok capacity source v, λ p. ap (read 
 pub unique : (v w : Value) → Valid v → Valid w → print v ≡ print w → v ≡ w
 unique v w f g e =
     let more : ℕ = nodes v + nodes w in
-    ok-same (sym (read-print more v (record { valid = f; small = omega arith })) ∙ ap (read more) e ∙ read-print more w (record { valid = g; small = omega arith }))
+    ok-same (sym (read-print more v (record { valid = f; small = omega arith })) ∙ ap (read more) e
+    ∙ read-print more w (record { valid = g; small = omega arith }))
 
 -- "A plan's meaning follows from its bytes alone."
 pub one-meaning : (source : List ℕ) (m n : Meaning) → Means source m → Means source n → m ≡ n
@@ -47,5 +48,6 @@ told : (a : Answer Value) → ((v : Value) × (a ≡ ok v)) ⊎ ((n : ℕ) × (p
 told (ok v) = inl (v, refl)
 told (refused n p) = inr (n, p, refl)
 
-pub accepted-or-refused : (capacity : ℕ) (source : List ℕ) → ((v : Value) × (read capacity source ≡ ok v)) ⊎ ((n : ℕ) × (p : ℕ) × (read capacity source ≡ refused n p))
+pub accepted-or-refused : (capacity : ℕ) (source : List ℕ)
+    → ((v : Value) × (read capacity source ≡ ok v)) ⊎ ((n : ℕ) × (p : ℕ) × (read capacity source ≡ refused n p))
 accepted-or-refused capacity source = told (read capacity source)

@@ -36,7 +36,9 @@ same-word x y h k = go (test (eqb (word (integer x)) (word (integer y)))) (test 
     equal : eqb (word (integer x)) (word (integer y)) ≡ true → integer x ≡ integer y
     equal e = sym (word-back x h) ∙ ap integerOf (eqb-true (word (integer x)) (word (integer y)) e) ∙ word-back y k
 
-    go : Test (eqb (word (integer x)) (word (integer y))) → Test (sameInteger (integer x) (integer y)) → sameInteger (integer x) (integer y) ≡ eqb (word (integer x)) (word (integer y))
-    go (passed e) b = T-true (sameInteger (integer x) (integer y)) (subst (λ (i : ℤ). T (sameInteger (integer x) i)) (equal e) (integers-same (integer x))) ∙ sym e
+    go : Test (eqb (word (integer x)) (word (integer y))) → Test (sameInteger (integer x) (integer y))
+        → sameInteger (integer x) (integer y) ≡ eqb (word (integer x)) (word (integer y))
+    go (passed e) b = T-true (sameInteger (integer x) (integer y)) (subst (λ (i : ℤ). T (sameInteger (integer x) i)) (equal e) (integers-same (integer x)))
+        ∙ sym e
     go (failed e) (passed s) = absurd (eqb-false (word (integer x)) (word (integer y)) e (ap word (integers-equal (integer x) (integer y) (T-of s))))
     go (failed e) (failed s) = s ∙ sym e

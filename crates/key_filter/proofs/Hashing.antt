@@ -110,7 +110,8 @@ text-none h t e = ap (λ (n : ℕ). mixedWords ((n + 7) / 8) h t) e
 
 -- what is mixed in when so many bytes are left
 module _ (s : List ℕ) (h₀ h at n : ℕ) (all : List ℕ) (inside : at + n ≤ length s) (so-far : mixedText h (take n (drop at s)) ≡ mixedText h₀ all) where
-  pub words-more : (h′ w : ℕ) → 8 ≤ n → w ≡ halfOf (drop at s) + halfOf (drop (at + 4) s) * 2 ^ 32 → h′ ≡ mixed h w → mixedText h′ (take (n - 8) (drop (at + 8) s)) ≡ mixedText h₀ all
+  pub words-more : (h′ w : ℕ) → 8 ≤ n → w ≡ halfOf (drop at s) + halfOf (drop (at + 4) s) * 2 ^ 32 → h′ ≡ mixed h w
+      → mixedText h′ (take (n - 8) (drop (at + 8) s)) ≡ mixedText h₀ all
   words-more h′ w l e f =
       let t = take n (drop at s) in
       ap (mixedText h′) (sym (next-part s at n l inside))
@@ -146,7 +147,8 @@ pub words-int : (s : List ℕ) (holder : ℕ) (w : KeyWords) → w .tag ≡ tag 
 unfolding hashWords
 words-int s holder w e = rw (hashWords, eq-eqb (w .tag) 105 e)
 
-pub words-text : (s : List ℕ) (holder : ℕ) (w : KeyWords) → (w .tag ≡ tag Kind.int → ⊥) → hashWords s holder w ≡ textHash holder (textOf s (w .content) (w .size))
+pub words-text : (s : List ℕ) (holder : ℕ) (w : KeyWords) → (w .tag ≡ tag Kind.int → ⊥)
+    → hashWords s holder w ≡ textHash holder (textOf s (w .content) (w .size))
 unfolding hashWords
 words-text s holder w n = rw (hashWords, ne-eqb (w .tag) 105 n)
 

@@ -91,7 +91,8 @@ mark-none m h e =
     let i = first (length m) h in
     let j = second (length m) h in
     let s = set m i (bitOr (getD m i 0) (maskOf h)) in
-    set-out s j (bitOr (getD m j 0) (maskOf h)) (omega (arith, length-set m i (bitOr (getD m i 0) (maskOf h)))) ∙ set-out m i (bitOr (getD m i 0) (maskOf h)) (omega arith)
+    set-out s j (bitOr (getD m j 0) (maskOf h)) (omega (arith, length-set m i (bitOr (getD m i 0) (maskOf h))))
+    ∙ set-out m i (bitOr (getD m i 0) (maskOf h)) (omega arith)
 
 mark-length : (m : List ℕ) (h : ℕ) → length (mark m h) ≡ length m
 unfolding mark withMask
@@ -145,7 +146,8 @@ pub all-grow : (m m′ : List ℕ) (holder : ℕ) (ks : List Key) → Grows m m�
 all-grow m m′ holder [] g a = tt
 all-grow m m′ holder (k ∷ ks) g a = (g .keeps (hashKey holder k) (a .0), all-grow m m′ holder ks g (a .1))
 
-pub all-snoc : (m : List ℕ) (holder : ℕ) (ks : List Key) (k : Key) → AllMarked m holder ks → marked m (hashKey holder k) ≡ true → AllMarked m holder (ks ++ (k ∷ []))
+pub all-snoc : (m : List ℕ) (holder : ℕ) (ks : List Key) (k : Key) → AllMarked m holder ks → marked m (hashKey holder k) ≡ true
+    → AllMarked m holder (ks ++ (k ∷ []))
 all-snoc m holder [] k a e = (e, tt)
 all-snoc m holder (j ∷ ks) k a e = (a .0, all-snoc m holder ks k (a .1) e)
 

@@ -25,5 +25,10 @@ module _ (t : List ℕ) (i : ℕ) where
   key-there h = key-inside (omega arith)
 
   -- as the words are loaded
-  pub key-loaded : i < capacityOf t → record { tag = getD t (i * width) 0; content = getD t (i * width + 2) 0; size = getD t (i * width + 3) 0 } ≡ keyWordsIn t i
-  key-loaded h = ap (λ (k : ℕ). record { tag = getD t k 0; content = getD t (i * width + 2) 0; size = getD t (i * width + 3) 0 }) (sym (add-zero (i * width))) ∙ sym (key-inside h)
+  pub key-loaded : i < capacityOf t → record {
+    tag = getD t (i * width) 0;
+    content = getD t (i * width + 2) 0;
+    size = getD t (i * width + 3) 0;
+  } ≡ keyWordsIn t i
+  key-loaded h = ap (λ (k : ℕ). record { tag = getD t k 0; content = getD t (i * width + 2) 0; size = getD t (i * width + 3) 0 }) (sym (add-zero (i * width)))
+      ∙ sym (key-inside h)

@@ -51,9 +51,11 @@ module _ (s : List ℕ) (a : KeyWords) (t : List ℕ) (b : KeyWords) where
 
   -- THE WORDS DECIDE
   pub words-same : (j k : Key) → Held s j a → Held t k b → sameWords s a t b ≡ sameKey j k
-  words-same (intKey x) (intKey y) h g = contents (h .is ∙ sym (g .is)) (h .is) ∙ ap₂ eqb (sym (h .says)) (sym (g .says)) ∙ sym (same-word x y (h .fits) (g .fits))
+  words-same (intKey x) (intKey y) h g = contents (h .is ∙ sym (g .is)) (h .is) ∙ ap₂ eqb (sym (h .says)) (sym (g .says))
+      ∙ sym (same-word x y (h .fits) (g .fits))
   words-same (intKey x) (stringKey q) h g = tags-differ (λ e. omega (arith, h .is, g .is, e))
   words-same (stringKey q) (intKey y) h g = tags-differ (λ e. omega (arith, h .is, g .is, e))
   words-same (stringKey q) (stringKey r) h g =
       texts (h .is ∙ sym (g .is)) (λ e. omega (arith, h .is, e))
-      ∙ ap₂ sameBytes (text-inside s (a .content) (a .size) (h .says .1) ∙ sym (h .says .0)) (text-inside t (b .content) (b .size) (g .says .1) ∙ sym (g .says .0))
+      ∙ ap₂ sameBytes (text-inside s (a .content) (a .size) (h .says .1) ∙ sym (h .says .0)) (text-inside t (b .content) (b .size) (g .says .1)
+      ∙ sym (g .says .0))

@@ -14,7 +14,8 @@ use Rattle.format.specs.Syntax.{intKey, stringKey, array, Key, Container, Value
 use Rattle.format.specs.Keys.{hasKey}
 use Rattle.format.specs.Fits.{KeyFits, SoundIn, Valid}
 use Rattle.format.specs.Answer.{ok}
-use Rattle.format.specs.Table.{Node, words, width, wordAt, endWord, ordinalWord, contentWord, sizeWord, linkWord, pairEnd, flat, textOffset, keyNode, branchNode, table, tableIn, targetOf, tableOf, valueOffset, nextOffset}
+use Rattle.format.specs.Table.{Node, words, width, wordAt, endWord, ordinalWord, contentWord, sizeWord, linkWord, pairEnd, flat, textOffset, keyNode}
+use Rattle.format.specs.Table.{branchNode, table, tableIn, targetOf, tableOf, valueOffset, nextOffset}
 use Rattle.format.specs.Shows.{ordinalsOf, upFrom, nodeAt}
 use Rattle.format.specs.Edit.{keys, ordinalsUpto, ordinalsWithin, ordinalsBefore, newOrdinal}
 use Rattle.format.specs.Writing.{Site, arrayAt}

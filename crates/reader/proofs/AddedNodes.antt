@@ -13,9 +13,11 @@ use Rattle.reader.specs.Nodes.{nodeOf, NodeAdded}
 
 module _ (t t′ : List ℕ) (c : Cursor) (tag : ℕ) (x : Text) (own : Bool) (ordinal word : ℕ) where
   pub added : ((own ≡ true) × (ordinal ≡ c .ordinal + 1) × (word ≡ c .ordinal + 1)) ⊎ ((own ≡ false) × (ordinal ≡ c .ordinal) × (word ≡ 0))
-      → t′ ≡ sets t (c .node * width) (words (nodeOf tag word (c .node + 1) x)) → NodeAdded t t′ c tag x own (record { at = x .next; node = c .node + 1; ordinal = ordinal; levels = c .levels })
+      → t′ ≡ sets t (c .node * width) (words (nodeOf tag word (c .node + 1) x))
+      → NodeAdded t t′ c tag x own (record { at = x .next; node = c .node + 1; ordinal = ordinal; levels = c .levels })
   added w e =
       record {
         table = e ∙ ap (λ (n : ℕ). sets t (c .node * width) (words (nodeOf tag n (c .node + 1) x))) (⊎-elim (λ p. p .2 ∙ rw (p .0)) (λ p. p .2 ∙ rw (p .0)) w);
-        cursor = ap (λ (n : ℕ). record { at = x .next; node = c .node + 1; ordinal = n; levels = c .levels }) (⊎-elim (λ p. p .1 ∙ rw (p .0)) (λ p. p .1 ∙ rw (p .0) (sym (add-zero (c .ordinal)))) w);
+        cursor = ap (λ (n : ℕ). record { at = x .next; node = c .node + 1; ordinal = n; levels = c .levels })
+            (⊎-elim (λ p. p .1 ∙ rw (p .0)) (λ p. p .1 ∙ rw (p .0) (sym (add-zero (c .ordinal)))) w);
       }

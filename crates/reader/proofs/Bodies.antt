@@ -10,10 +10,12 @@ use lib.ListN.{length}
 use Rattle.format.specs.Bytes.{bytes}
 use Rattle.format.specs.Kind.{Kind, tag}
 use Rattle.format.specs.Tree.{leaf, ref, branch}
-use Rattle.format.specs.Syntax.{null, bool, int, float, string, intKey, stringKey, array, object, Spelling, Scalar, Key, Container, RefKind, objectRef, variableRef, refKind, Reference, Value, Values, writeNumber}
+use Rattle.format.specs.Syntax.{null, bool, int, float, string, intKey, stringKey, array, object, Spelling, Scalar, Key, Container, RefKind, objectRef}
+use Rattle.format.specs.Syntax.{variableRef, refKind, Reference, Value, Values, writeNumber}
 use Rattle.format.specs.Limits.{Seen, seeBranch}
 use Rattle.format.specs.Answer.{Answer, ok, refused, _>>=_, require}
-use Rattle.format.specs.Read.{expect, number, intText, quotedText, boolText, floatText, referenceText, keyText, Setting, isArray, Inner, readPairs, readBranch, readBody}
+use Rattle.format.specs.Read.{expect, number, intText, quotedText, boolText, floatText, referenceText, keyText, Setting, isArray, Inner, readPairs, readBranch}
+use Rattle.format.specs.Read.{readBody}
 use Rattle.format.specs.Table.{Node, single, keyNode, scalarNode, branchNode}
 use Rattle.format.proofs.Answers.{ok-same, not-both, bind-ok, bind-map}
 use Rattle.scanner.specs.Scans.{countText, namedText, headText, containerTold, scalarText, scalarTold}
@@ -64,7 +66,8 @@ scalar-kind Kind.variableReference l s q e = absurd (not-both e)
 
 scalar-tag : (b : ℕ) → scalarTag b → tag (kindFor b) ≡ b
 unfolding kindFor
-scalar-tag b o = ⊎-elim (λ e. rw e) (λ o. ⊎-elim (λ e. rw e) (λ o. ⊎-elim (λ e. rw e) (λ o. ⊎-elim (λ e. rw e) (λ o. ⊎-elim (λ e. rw e) (λ z. absurd z) o) o) o) o) o
+scalar-tag b o = ⊎-elim (λ e. rw e)
+    (λ o. ⊎-elim (λ e. rw e) (λ o. ⊎-elim (λ e. rw e) (λ o. ⊎-elim (λ e. rw e) (λ o. ⊎-elim (λ e. rw e) (λ z. absurd z) o) o) o) o) o
 
 -- an offset counts from behind the tag, or from it
 from-tag : (o n : ℕ) → o + 4 + n ≡ o + 1 + 3 + n
@@ -75,10 +78,12 @@ scalar-told o i n next null = refl
 scalar-told o i n next (bool b) = refl
 scalar-told o i n next (int x) = refl
 scalar-told o i n next (float t) = ap (λ (k : ℕ). single Kind.float n k (length t) i) (sym (plus-two o))
-scalar-told o i n next (string q) = ap (λ (k : ℕ). single Kind.string n k (length (q .text)) i) (from-tag o (length (writeNumber (q .spelling) (length (q .text)) [])))
+scalar-told o i n next (string q) = ap (λ (k : ℕ). single Kind.string n k (length (q .text)) i)
+    (from-tag o (length (writeNumber (q .spelling) (length (q .text)) [])))
 
 -- so its node is the one that its tag and its text tell
-pub scalar-node : (b l o i n next : ℕ) (s : List ℕ) (q : Scalar × List ℕ) → scalarTag b → scalarText (kindFor b) l s ≡ ok q → scalarNode o i n (q .0) ≡ nodeOf b n (suc i) (scalarTold (o + 1) (q .0) next)
+pub scalar-node : (b l o i n next : ℕ) (s : List ℕ) (q : Scalar × List ℕ) → scalarTag b → scalarText (kindFor b) l s ≡ ok q
+    → scalarNode o i n (q .0) ≡ nodeOf b n (suc i) (scalarTold (o + 1) (q .0) next)
 scalar-node b l o i n next s q t e =
     scalar-told o i n next (q .0)
     ∙ ap (λ (k : ℕ). nodeOf k n (suc i) (scalarTold (o + 1) (q .0) next)) (ap tag (scalar-kind (kindFor b) l s q e) ∙ scalar-tag b t)
@@ -87,7 +92,8 @@ scalar-node b l o i n next s q t e =
 
 pub key-told : (o i next : ℕ) (k : Key) → keyNode o i k ≡ nodeOf (tag (keyKind k)) 0 (suc i) (keyTold (o + 1) k next)
 key-told o i next (intKey x) = refl
-key-told o i next (stringKey q) = ap (λ (k : ℕ). single Kind.string 0 k (length (q .text)) i) (from-tag o (length (writeNumber (q .spelling) (length (q .text)) [])))
+key-told o i next (stringKey q) = ap (λ (k : ℕ). single Kind.string 0 k (length (q .text)) i)
+    (from-tag o (length (writeNumber (q .spelling) (length (q .text)) [])))
 
 pub key-of-int : (l : ℕ) (s : List ℕ) (q : Key × List ℕ) → keyText Kind.int l s ≡ ok q → keyKind (q .0) ≡ Kind.int
 unfolding keyText
@@ -114,13 +120,18 @@ module _ (set : Setting) (inner : Inner) (l : ℕ) (seen : Seen) (before : ℕ) 
   unfolding readBranch countText
   branch-count c s = go (number l s)
     where
-      after : (w : Spelling) (n : ℕ) (b : Answer (List ℕ)) → (b >>= λ s₂. pairsOf ((c, (w, n)), s₂)) ≡ ((b >>= λ s₂. _>>=_ {B = (Spelling × ℕ) × List ℕ} (ok s₂) (λ s. ok ((w, n), s))) >>= λ q. pairsOf ((c, q .0), q .1))
+      after : (w : Spelling) (n : ℕ) (b : Answer (List ℕ))
+          → (b >>= λ s₂. pairsOf ((c, (w, n)), s₂)) ≡ ((b >>= λ s₂. _>>=_ {B = (Spelling × ℕ) × List ℕ} (ok s₂) (λ s. ok ((w, n), s))) >>= λ q. pairsOf
+          ((c, q .0), q .1))
       after w n (ok s₂) = refl
       after w n (refused c p) = refl
 
       go : (a : Answer ((Spelling × ℕ) × List ℕ))
           → (a >>= λ q. expect l (bytes ":{") (q .1) >>= λ s₂. pairsOf ((c, q .0), s₂))
-          ≡ ((a >>= λ q. expect l (bytes ":{") (q .1) >>= λ s₂. _>>=_ {B = (Spelling × ℕ) × List ℕ} (ok s₂) (λ s. ok (q .0, s))) >>= λ q. pairsOf ((c, q .0), q .1))
+          ≡ ((a >>= λ q. expect l (bytes ":{") (q .1) >>= λ s₂. _>>=_ {B = (Spelling × ℕ) × List ℕ} (ok s₂) (λ s. ok (q .0, s))) >>= λ q. pairsOf (
+            (c, q .0),
+            q .1,
+          ))
       go (refused c p) = refl
       go (ok q) = after (q .0 .0) (q .0 .1) (expect l (bytes ":{") (q .1))
 
@@ -132,7 +143,8 @@ module _ (set : Setting) (inner : Inner) (l : ℕ) (seen : Seen) (before : ℕ) 
   unfolding readBody headText kindFor isArrayTag
   body-head b s o =
       ⊎-elim (λ e. rw e (bind-ext (expect l (bytes ":") s) _ _ (λ s₁. counted array s₁) ∙ sym (bind-assoc (expect l (bytes ":") s) _ pairsOf)))
-      (λ o. ⊎-elim (λ e. rw e (bind-ext (quotedText l (bytes "\":") s) _ _ (λ q. counted (object (q .0)) (q .1)) ∙ sym (bind-assoc (quotedText l (bytes "\":") s) _ pairsOf)))
+      (λ o. ⊎-elim (λ e. rw e (bind-ext (quotedText l (bytes "\":") s) _ _ (λ q. counted (object (q .0)) (q .1))
+      ∙ sym (bind-assoc (quotedText l (bytes "\":") s) _ pairsOf)))
       (λ z. absurd z) o) o
 
 -- what is read behind the tag of an array is an array's head, and so of an object
@@ -147,7 +159,8 @@ head-array false l s q e =
     let b = bind-ok (countText l (a .0 .1)) _ q (a .2) in
     ap (λ (x : (Container × (Spelling × ℕ)) × List ℕ). isArray (x .0 .0)) (sym (ok-same (b .2)))
 
-pub head-node : (b o n end next : ℕ) (c : Container) (link : ℕ) → containerTag b → isArray c ≡ isArrayTag b → branchNode o n c link end ≡ nodeOf b n end (containerTold (o + 1) c link next)
+pub head-node : (b o n end next : ℕ) (c : Container) (link : ℕ) → containerTag b → isArray c ≡ isArrayTag b
+    → branchNode o n c link end ≡ nodeOf b n end (containerTold (o + 1) c link next)
 unfolding isArrayTag
 head-node b o n end next array link t e = ⊎-elim (λ q. rw q) (λ t. ⊎-elim (λ q. absurd (true≢false (rw q at e))) (λ z. absurd z) t) t
 head-node b o n end next (object q) link t e =
@@ -180,7 +193,8 @@ module _ (k : RefKind) (l : ℕ) (seen : Seen) where
   asked n s₃ (ok u) = refl
   asked n s₃ (refused c p) = refl
 
-  ended : (n : Spelling × ℕ) (b : Answer (List ℕ)) → ((b >>= λ s₃. earlier (n .1) >>= λ u. kept (made k n) s₃) >>= asRef) ≡ ((b >>= λ s₃. kept n s₃) >>= resolved)
+  ended : (n : Spelling × ℕ) (b : Answer (List ℕ))
+      → ((b >>= λ s₃. earlier (n .1) >>= λ u. kept (made k n) s₃) >>= asRef) ≡ ((b >>= λ s₃. kept n s₃) >>= resolved)
   ended n (ok s₃) = asked n s₃ (earlier (n .1))
   ended n (refused c p) = refl
 

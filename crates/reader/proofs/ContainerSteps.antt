@@ -84,7 +84,8 @@ module _ (s : List ℕ) (capacity : ℕ) (c : Cursor) (b : ℕ) (is : containerT
     same-pairs =
         ap (λ (a : Bool). readPairs (setting capacity s) inner a (f .what .1 .1) [] (suc (c .ordinal)) (suc (c .node)) (drop (x .next) s)) of-array
         ∙ ap (λ (n : ℕ). readPairs (setting capacity s) inner (isArrayTag b) n [] (suc (c .ordinal)) (suc (c .node)) (drop (x .next) s)) count-is
-        ∙ ap₂ (λ (n i : ℕ). readPairs (setting capacity s) inner (isArrayTag b) (x .link) [] n i (drop (x .next) s)) (sym (add-one (c .ordinal))) (sym (add-one (c .node)))
+        ∙ ap₂ (λ (n i : ℕ). readPairs (setting capacity s) inner (isArrayTag b) (x .link) [] n i (drop (x .next) s)) (sym (add-one (c .ordinal)))
+        (sym (add-one (c .node)))
 
     opened-pairs : given ≡ (pairs >>= shut)
     opened-pairs = opened ∙ rw (f .is (c .at)) (ap (λ (o : Answer (Values × List ℕ)). o >>= shut) same-pairs)
@@ -100,7 +101,8 @@ module _ (s : List ℕ) (capacity : ℕ) (c : Cursor) (b : ℕ) (is : containerT
         closed-by : pairs ≡ refused code at → given ≡ refused code at
         closed-by e = opened-pairs ∙ ap (λ (o : Answer (Values × List ℕ)). o >>= shut) e
 
-    module _ (t t₁ t₂ t₃ : List ℕ) (fit : Fit s t capacity c) (room : c .node < capacity) (last : Cursor) (inside : Cursor) (first : NodeOpened t t₁ c b x inside)
+    module _ (t t₁ t₂ t₃ : List ℕ) (fit : Fit s t capacity c) (room : c .node < capacity) (last : Cursor) (inside : Cursor)
+        (first : NodeOpened t t₁ c b x inside)
         (read : GoodPairs s t₁ t₂ capacity inside (pairsAt s capacity b (x .link) inside) last) where
       g : GoodPairs s t₁ t₂ capacity (within c (x .next)) pairs last
       g = subst (λ (i : Cursor). GoodPairs s t₁ t₂ capacity i (pairsAt s capacity b (x .link) i) last) (first .cursor) read
@@ -108,7 +110,8 @@ module _ (s : List ℕ) (capacity : ℕ) (c : Cursor) (b : ℕ) (is : containerT
       pub brace-missing : eqb (byteAt s (last .at)) (byte "}") ≡ false → given ≡ refused 2 (c .at)
       brace-missing e = opened-pairs ∙ ap (λ (o : Answer (Values × List ℕ)). o >>= shut) (g .is) ∙ rw (expect-no (c .at) s (last .at) (byte "}") [] e)
 
-      module _ (e : eqb (byteAt s (last .at)) (byte "}") ≡ true) (l₂ : length t₂ ≡ length t₁) (e₃ : t₃ ≡ sets t₂ (c .node * width + endWord) (last .node ∷ [])) where
+      module _ (e : eqb (byteAt s (last .at)) (byte "}") ≡ true) (l₂ : length t₂ ≡ length t₁)
+          (e₃ : t₃ ≡ sets t₂ (c .node * width + endWord) (last .node ∷ [])) where
         e₁ : t₁ ≡ sets t (c .node * width) (words (nodeOf b (c .ordinal + 1) 0 x))
         e₁ = first .table
 
@@ -128,7 +131,10 @@ module _ (s : List ℕ) (capacity : ℕ) (c : Cursor) (b : ℕ) (is : containerT
 
         all : tree.count (g .pairs) ≡ x .link
         unfolding pairsAt
-        all = pairs-count (setting capacity s) inner (isArrayTag b) (x .link) [] (c .ordinal + 1) (c .node + 1) (drop (x .next) s) (g .pairs, drop (last .at) s) (g .is)
+        all = pairs-count (setting capacity s) inner (isArrayTag b) (x .link) [] (c .ordinal + 1) (c .node + 1) (drop (x .next) s) (
+          g .pairs,
+          drop (last .at) s,
+        ) (g .is)
 
         abbrev value : Value
         value = branch (record { container = container; spelling = spelling }) (g .pairs)
@@ -145,23 +151,28 @@ module _ (s : List ℕ) (capacity : ℕ) (c : Cursor) (b : ℕ) (is : containerT
         end-is : last .node ≡ c .node + suc (nodesIn (g .pairs))
         end-is = omega (arith, g .node)
 
-        own-row : nodeOf b (c .ordinal + 1) (last .node) x ≡ branchNode (c .at) (suc (c .ordinal)) container (tree.count (g .pairs)) (c .node + suc (nodesIn (g .pairs)))
+        own-row : nodeOf b (c .ordinal + 1) (last .node) x ≡ branchNode (c .at) (suc (c .ordinal)) container (tree.count (g .pairs))
+            (c .node + suc (nodesIn (g .pairs)))
         own-row =
             ap (λ (n : ℕ). nodeOf b n (last .node) x) (add-one (c .ordinal))
             ∙ ap (λ (n : ℕ). nodeOf b (suc (c .ordinal)) n x) end-is
-            ∙ ap (nodeOf b (suc (c .ordinal)) (c .node + suc (nodesIn (g .pairs)))) (f .tells ∙ ap (λ (n : ℕ). containerTold (c .at + 1) container n (x .next)) (count-is ∙ sym all))
+            ∙ ap (nodeOf b (suc (c .ordinal)) (c .node + suc (nodesIn (g .pairs))))
+            (f .tells ∙ ap (λ (n : ℕ). containerTold (c .at + 1) container n (x .next)) (count-is ∙ sym all))
             ∙ sym (head-node b (c .at) (suc (c .ordinal)) (c .node + suc (nodesIn (g .pairs))) (x .next) container (tree.count (g .pairs)) is of-array)
 
         below-is : (to : ℕ → ℕ)
-            → below to ≡ tableIn to (pairsOffset (c .at) (record { container = container; spelling = spelling }) (tree.count (g .pairs))) (suc (c .node)) (suc (suc (c .ordinal))) (g .pairs)
+            → below to ≡ tableIn to (pairsOffset (c .at) (record { container = container; spelling = spelling }) (tree.count (g .pairs))) (suc (c .node))
+            (suc (suc (c .ordinal))) (g .pairs)
         below-is to =
             ap (λ (n : ℕ). tableIn to n (c .node + 1) (suc (c .ordinal + 1)) (g .pairs)) begins
-            ∙ ap₂ (λ (i n : ℕ). tableIn to (pairsOffset (c .at) (record { container = container; spelling = spelling }) (tree.count (g .pairs))) i n (g .pairs)) (add-one (c .node)) (ap suc (add-one (c .ordinal)))
+            ∙ ap₂ (λ (i n : ℕ). tableIn to (pairsOffset (c .at) (record { container = container; spelling = spelling }) (tree.count (g .pairs))) i n
+            (g .pairs)) (add-one (c .node)) (ap suc (add-one (c .ordinal)))
 
         rows : (to : ℕ → ℕ) → front ++ (last .node ∷ []) ++ flat (below to) ≡ flat (table to (c .at) (c .node) (suc (c .ordinal)) value)
         rows to =
             ap (λ (n : Node). words n ++ flat (below to)) own-row
-            ∙ ap (λ (ns : List Node). flat (branchNode (c .at) (suc (c .ordinal)) container (tree.count (g .pairs)) (c .node + suc (nodesIn (g .pairs))) ∷ ns)) (below-is to)
+            ∙ ap (λ (ns : List Node). flat (branchNode (c .at) (suc (c .ordinal)) container (tree.count (g .pairs)) (c .node + suc (nodesIn (g .pairs)))
+            ∷ ns)) (below-is to)
 
         row-behind : (n : ℕ) → (n + 1) * width ≡ n * width + width
         row-behind n = omega arith
@@ -171,13 +182,16 @@ module _ (s : List ℕ) (capacity : ℕ) (c : Cursor) (b : ℕ) (is : containerT
         writes to p q =
             let ws : List ℕ = words (nodeOf b (c .ordinal + 1) 0 x) in
             let p₁ : Points to t₁ (c .node + 1) (c .ordinal + 1) =
-            points-step to t₁ (c .node) (c .ordinal) (points-kept to t t₁ (c .node) (c .ordinal) p (run-kept t t₁ ws (c .node) e₁)) (run-word t t₁ ws (c .node) 1 e₁ (lit< tt) long) (q .0) in
+            points-step to t₁ (c .node) (c .ordinal) (points-kept to t t₁ (c .node) (c .ordinal) p (run-kept t t₁ ws (c .node) e₁))
+            (run-word t t₁ ws (c .node) 1 e₁ (lit< tt) long) (q .0) in
             let q₁ : TakesIn to (c .node + 1) (suc (c .ordinal + 1)) (g .pairs) =
             subst₂ (λ (i n : ℕ). TakesIn to i n (g .pairs)) (sym (add-one (c .node))) (ap suc (sym (add-one (c .ordinal)))) (q .1) in
             let w = g .wrote .of to p₁ q₁ in (
-              node-around t t₁ t₂ t₃ front (flat (below to)) (c .node * width) 0 (last .node) refl e₁ (w .0 ∙ ap (λ (k : ℕ). sets t₁ k (flat (below to))) (row-behind (c .node))) e₃
+              node-around t t₁ t₂ t₃ front (flat (below to)) (c .node * width) 0 (last .node) refl e₁
+                  (w .0 ∙ ap (λ (k : ℕ). sets t₁ k (flat (below to))) (row-behind (c .node))) e₃
                   ∙ ap (sets t (c .node * width)) (rows to),
-              points-keep to t₂ t₃ (last .node) (last .ordinal) (w .1) (λ i l. ap (λ (u : List ℕ). getD u (i * width + 1) 0) e₃ ∙ getD-set-other t₂ (c .node * width + endWord) (i * width + 1) (last .node) 0 (λ z. omega arith)),
+              points-keep to t₂ t₃ (last .node) (last .ordinal) (w .1) (λ i l. ap (λ (u : List ℕ). getD u (i * width + 1) 0) e₃
+                  ∙ getD-set-other t₂ (c .node * width + endWord) (i * width + 1) (last .node) 0 (λ z. omega arith)),
             )
 
         pub container-good : GoodValue s t t₃ capacity c given (record { at = last .at + 1; node = last .node; ordinal = last .ordinal; levels = c .levels })
@@ -192,7 +206,8 @@ module _ (s : List ℕ) (capacity : ℕ) (c : Cursor) (b : ℕ) (is : containerT
               fits = g .fits;
               ordinal = omega (arith, g .ordinal);
               levels = refl;
-              end = ap (λ (u : List ℕ). getD u (c .node * width + endWord) 0) e₃ ∙ getD-set-same t₂ (c .node * width + endWord) (last .node) 0 (omega (arith, long, l₁));
+              end = ap (λ (u : List ℕ). getD u (c .node * width + endWord) 0) e₃
+                  ∙ getD-set-same t₂ (c .node * width + endWord) (last .node) 0 (omega (arith, long, l₁));
               kept = keeps;
               wrote = record { of = writes };
             }

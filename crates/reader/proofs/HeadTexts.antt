@@ -21,11 +21,13 @@ use Rattle.reader.specs.Texts.{isArrayTag}
 
 -- ---- its tag
 
-pub head-array-is : (s : List ℕ) (at b : ℕ) (r : Scan) → b ≡ tag Kind.array → Scans (headText true) (headTold at) s at r → Scans (headText (isArrayTag b)) (headTold at) s at r
+pub head-array-is : (s : List ℕ) (at b : ℕ) (r : Scan) → b ≡ tag Kind.array → Scans (headText true) (headTold at) s at r
+    → Scans (headText (isArrayTag b)) (headTold at) s at r
 unfolding isArrayTag
 head-array-is s at b r e h = rw e h
 
-pub head-object-is : (s : List ℕ) (at b : ℕ) (r : Scan) → b ≡ tag Kind.object → Scans (headText false) (headTold at) s at r → Scans (headText (isArrayTag b)) (headTold at) s at r
+pub head-object-is : (s : List ℕ) (at b : ℕ) (r : Scan) → b ≡ tag Kind.object → Scans (headText false) (headTold at) s at r
+    → Scans (headText (isArrayTag b)) (headTold at) s at r
 unfolding isArrayTag
 head-object-is s at b r e h = rw e h
 
@@ -39,7 +41,8 @@ unfolding countText
 count-ok l s q e =
     let a = bind-ok (number l s) _ q e in
     let b = bind-ok (expect l (bytes ":{") (a .0 .1)) _ q (a .2) in
-    subst (GotCount s) (ok-same (b .2)) (record { text = number-ok l s (a .0) (a .1) .text ∙ ap (writeNumber (a .0 .0 .0) (a .0 .0 .1)) (expect-ok l (bytes ":{") (a .0 .1) (b .0) (b .1)) })
+    subst (GotCount s) (ok-same (b .2))
+    (record { text = number-ok l s (a .0) (a .1) .text ∙ ap (writeNumber (a .0 .0 .0) (a .0 .0 .1)) (expect-ok l (bytes ":{") (a .0 .1) (b .0) (b .1)) })
 
 record GotHead (s : List ℕ) (q : (Container × (Spelling × ℕ)) × List ℕ) : Type 0 where
   text : length s + 1 ≡ length (writeContainer (q .0 .0) (writeNumber (q .0 .1 .0) (q .0 .1 .1) [])) + 2 + length (q .1)
@@ -52,7 +55,13 @@ head-ok true l s q e =
     let w : Spelling = b .0 .0 .0 in
     let n : ℕ = b .0 .0 .1 in
     subst (GotHead s) (ok-same (b .2)) (record {
-      text = omega (arith, ap length (expect-ok l (bytes ":") s (a .0) (a .1)), ap length (count-ok l (a .0) (b .0) (b .1) .text), number-length w n (byte ":" ∷ byte "{" ∷ b .0 .1), number-length w n []);
+      text = omega (
+        arith,
+        ap length (expect-ok l (bytes ":") s (a .0) (a .1)),
+        ap length (count-ok l (a .0) (b .0) (b .1) .text),
+        number-length w n (byte ":" ∷ byte "{" ∷ b .0 .1),
+        number-length w n [],
+      );
     })
 head-ok false l s q e =
     let a = bind-ok (quotedText l (bytes "\":") s) _ q e in

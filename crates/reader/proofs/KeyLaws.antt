@@ -264,7 +264,8 @@ module _ (s t m : List ℕ) (first n : ℕ) (w : KeyWords) (h : Seen) (b : Bool)
     tested-rising =
         record {
           answer = λ k ks g c u. new h higher k ks g c u;
-          known = λ k ks g c u. subst (λ (z : Seen). Known z m first (ks ++ (k ∷ []))) (sym (next-rising h w (sym is ∙ up))) (under-snoc (rank (w .content)) ks k (before h higher ks u) (under-key s k w g));
+          known = λ k ks g c u. subst (λ (z : Seen). Known z m first (ks ++ (k ∷ []))) (sym (next-rising h w (sym is ∙ up)))
+              (under-snoc (rank (w .content)) ks k (before h higher ks u) (under-key s k w g));
           grows = grows-none m;
         }
       where
@@ -284,7 +285,8 @@ module _ (s t m : List ℕ) (first n : ℕ) (w : KeyWords) (h : Seen) (b : Bool)
   tested-bare down e f o =
       record {
         answer = λ k ks g c u. o k ks g c;
-        known = λ k ks g c u. subst (λ (z : Seen). Known z m first (ks ++ (k ∷ []))) (sym (next-marked h w (sym is ∙ down))) (all-none m first (ks ++ (k ∷ [])) e);
+        known = λ k ks g c u. subst (λ (z : Seen). Known z m first (ks ++ (k ∷ []))) (sym (next-marked h w (sym is ∙ down)))
+            (all-none m first (ks ++ (k ∷ [])) e);
         grows = grows-none m;
       }
 

@@ -41,7 +41,8 @@ use Rattle.reader.proofs.Stored.{run-word}
 use Rattle.reader.proofs.Leaves.{refused-is}
 
 -- what the scan of a key says of its words
-module _ (s : List ℕ) (at b : ℕ) (may : mayBeKey b ≡ true) (here : at < length s) (tagged : getD s at 0 ≡ b) (x : Text) (f : Found (keyText (kindFor b)) (keyTold (at + 1)) s (at + 1) x) where
+module _ (s : List ℕ) (at b : ℕ) (may : mayBeKey b ≡ true) (here : at < length s) (tagged : getD s at 0 ≡ b) (x : Text)
+    (f : Found (keyText (kindFor b)) (keyTold (at + 1)) s (at + 1) x) where
   which : KeyKind (kindFor b)
   unfolding kindFor
   which = ⊎-elim (λ e. is-int (rw e)) (λ o. ⊎-elim (λ e. is-string (rw e)) (λ z. absurd z) o) (one-of (keyKinds true) b may)
@@ -51,10 +52,16 @@ module _ (s : List ℕ) (at b : ℕ) (may : mayBeKey b ≡ true) (here : at < le
     where
       go : KeyKind (kindFor b) → keyKind (f .what) ≡ kindFor b
       go (is-int e) =
-          key-of-int 0 (drop (at + 1) s) (f .what, drop (x .next) s) (subst (λ (k : Kind). keyText k 0 (drop (at + 1) s) ≡ ok (f .what, drop (x .next) s)) e (f .is 0))
+          key-of-int 0 (drop (at + 1) s) (
+            f .what,
+            drop (x .next) s,
+          ) (subst (λ (k : Kind). keyText k 0 (drop (at + 1) s) ≡ ok (f .what, drop (x .next) s)) e (f .is 0))
           ∙ sym e
       go (is-string e) =
-          key-of-string 0 (drop (at + 1) s) (f .what, drop (x .next) s) (subst (λ (k : Kind). keyText k 0 (drop (at + 1) s) ≡ ok (f .what, drop (x .next) s)) e (f .is 0))
+          key-of-string 0 (drop (at + 1) s) (
+            f .what,
+            drop (x .next) s,
+          ) (subst (λ (k : Kind). keyText k 0 (drop (at + 1) s) ≡ ok (f .what, drop (x .next) s)) e (f .is 0))
           ∙ sym e
 
   tag-back : tag (kindFor b) ≡ b
@@ -81,7 +88,8 @@ module _ (s : List ℕ) (at b : ℕ) (may : mayBeKey b ≡ true) (here : at < le
       let o : x .content ≡ at + 1 + 3 + length (writeNumber (q .spelling) (length (q .text)) []) = ap (λ (u : Text). u .content) e in
       let n : x .size ≡ length (q .text) = ap (λ (u : Text). u .size) e in
       let z : textOffset at q ≡ x .content = omega (arith, o) in (
-        sym (ap (λ (k : ℕ). take k (drop (x .content) s)) n ∙ ap (λ (k : ℕ). take (length (q .text)) (drop k s)) (sym z) ∙ quoted-text s at (byte "s") q (byte ";" ∷ drop (x .next) s) w),
+        sym (ap (λ (k : ℕ). take k (drop (x .content) s)) n ∙ ap (λ (k : ℕ). take (length (q .text)) (drop k s)) (sym z)
+            ∙ quoted-text s at (byte "s") q (byte ";" ∷ drop (x .next) s) w),
         omega (arith, o, n, ap length w, length-drop at s, quoted-length q (byte ";" ∷ drop (x .next) s), number-length (q .spelling) (length (q .text)) []),
       )
 
@@ -98,7 +106,8 @@ module _ (s : List ℕ) (at b : ℕ) (may : mayBeKey b ≡ true) (here : at < le
 added-words : (t t′ : List ℕ) (c c′ : Cursor) (b : ℕ) (x : Text) → c .node * width + width ≤ length t → NodeAdded t t′ c b x false c′
     → keyWordsAt t′ (c .node) ≡ record { tag = b; content = x .content; size = x .size }
 added-words t t′ c c′ b x room p =
-    of-words (wordAt t′ (c .node) tagWord) b (wordAt t′ (c .node) contentWord) (x .content) (wordAt t′ (c .node) sizeWord) (x .size) (word-is 0 (lit< tt)) (word-is 2 (lit< tt)) (word-is 3 (lit< tt))
+    of-words (wordAt t′ (c .node) tagWord) b (wordAt t′ (c .node) contentWord) (x .content) (wordAt t′ (c .node) sizeWord) (x .size) (word-is 0 (lit< tt))
+    (word-is 2 (lit< tt)) (word-is 3 (lit< tt))
   where
     ws : List ℕ
     ws = words (nodeOf b 0 (c .node + 1) x)
@@ -165,7 +174,13 @@ module _ (s : List ℕ) (capacity container : ℕ) (c : Cursor) (earlier : List 
 
         opened : given ≡ (keyText (kindFor b) (c .at) (drop (c .at + 1) s) >>= rest)
         unfolding keyAt readKey
-        opened = rw (readKey, tag-is among 4 l s (c .at) b h q e, key-kind-is (isArrayTag container) b e, lt-ltb (c .node) capacity room, position-is s (c .at) inside)
+        opened = rw (
+          readKey,
+          tag-is among 4 l s (c .at) b h q e,
+          key-kind-is (isArrayTag container) b e,
+          lt-ltb (c .node) capacity room,
+          position-is s (c .at) inside,
+        )
 
         pub key-not : (t t′ : List ℕ) (scan : Scan) (code : ℕ) (r : Step) → Scans (keyText (kindFor b)) (keyTold (c .at + 1)) s (c .at + 1) scan
             → scan ≡ Scan.Not code → r ≡ refusalOf scan (c .at) → MeetsKey s t t′ capacity c given r

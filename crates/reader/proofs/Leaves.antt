@@ -59,7 +59,8 @@ module _ (s : List ℕ) (capacity at node : ℕ) (seen : Seen) where
       at-full zero e f = absurd (e refl)
       at-full (suc d) e f = rw (tag-is kinds 3 l s at b h q k, le-ltb node capacity f, position-is s at here)
 
-      at-open : (levels : ℕ) → 0 < levels → node < capacity → reads levels ≡ readBody (setting capacity s) (readValue (setting capacity s) (levels - 1)) (kindFor b) at seen node (drop (at + 1) s)
+      at-open : (levels : ℕ) → 0 < levels → node < capacity
+          → reads levels ≡ readBody (setting capacity s) (readValue (setting capacity s) (levels - 1)) (kindFor b) at seen node (drop (at + 1) s)
       unfolding kindFor
       at-open zero e f = absurd (omega arith)
       at-open (suc d) e f = rw (tag-is kinds 3 l s at b h q k, lt-ltb node capacity f, position-is s at here, sub-one (suc d))
@@ -88,7 +89,8 @@ module _ (s : List ℕ) (capacity : ℕ) (c : Cursor) where
 
 -- ---- a value that holds none
 
-module _ (s t t′ : List ℕ) (capacity : ℕ) (c c′ : Cursor) (b : ℕ) (x : Text) (takes : Bool) (fit : Fit s t capacity c) (room : c .node < capacity) (p : NodeAdded t t′ c b x takes c′) where
+module _ (s t t′ : List ℕ) (capacity : ℕ) (c c′ : Cursor) (b : ℕ) (x : Text) (takes : Bool) (fit : Fit s t capacity c) (room : c .node < capacity)
+    (p : NodeAdded t t′ c b x takes c′) where
   abbrev row : Node
   row = nodeOf b (taken takes (c .ordinal + 1)) (c .node + 1) x
 
@@ -96,8 +98,10 @@ module _ (s t t′ : List ℕ) (capacity : ℕ) (c c′ : Cursor) (b : ℕ) (x :
   long = omega arith
 
   -- the value, the words of its node, and that it takes the next ordinal if it takes one
-  pub leaf-good : (o : Answer (Value × List ℕ)) (v : Value) → o ≡ ok (v, drop (x .next) s) → c .at < x .next → x .next ≤ length s → nodes v ≡ 1 → ordinals own v ≡ one takes
-      → ((to : ℕ → ℕ) → Points to t (c .node) (c .ordinal) → table to (c .at) (c .node) (suc (c .ordinal)) v ≡ nodeOf b (taken takes (suc (c .ordinal))) (suc (c .node)) x ∷ [])
+  pub leaf-good : (o : Answer (Value × List ℕ)) (v : Value) → o ≡ ok (v, drop (x .next) s) → c .at < x .next → x .next ≤ length s → nodes v ≡ 1
+      → ordinals own v ≡ one takes
+      → ((to : ℕ → ℕ) → Points to t (c .node) (c .ordinal)
+      → table to (c .at) (c .node) (suc (c .ordinal)) v ≡ nodeOf b (taken takes (suc (c .ordinal))) (suc (c .node)) x ∷ [])
       → ((to : ℕ → ℕ) → Takes to (c .node) (suc (c .ordinal)) v → T takes → to (suc (c .ordinal)) ≡ c .node)
       → GoodValue s t t′ capacity c o c′
   leaf-good o v is on inside single numbered rows takes-own =
@@ -114,8 +118,10 @@ module _ (s t t′ : List ℕ) (capacity : ℕ) (c c′ : Cursor) (b : ℕ) (x :
         kept = kept;
         wrote = record {
           of = λ to q r. (
-            p .table ∙ ap (λ (n : Node). sets t (c .node * width) (flat (n ∷ []))) same ∙ ap (λ (ns : List Node). sets t (c .node * width) (flat ns)) (sym (rows to q)),
-            points-add to t′ (c .node) (c .ordinal) (points-kept to t t′ (c .node) (c .ordinal) q kept) takes (run-word t t′ (words row) (c .node) 1 (p .table) (lit< tt) long) (takes-own to r),
+            p .table ∙ ap (λ (n : Node). sets t (c .node * width) (flat (n ∷ []))) same
+                ∙ ap (λ (ns : List Node). sets t (c .node * width) (flat ns)) (sym (rows to q)),
+            points-add to t′ (c .node) (c .ordinal) (points-kept to t t′ (c .node) (c .ordinal) q kept) takes
+                (run-word t t′ (words row) (c .node) 1 (p .table) (lit< tt) long) (takes-own to r),
           );
         };
       })
@@ -124,7 +130,8 @@ module _ (s t t′ : List ℕ) (capacity : ℕ) (c c′ : Cursor) (b : ℕ) (x :
       kept = run-kept t t′ (words row) (c .node) (p .table)
 
       same : row ≡ nodeOf b (taken takes (suc (c .ordinal))) (suc (c .node)) x
-      same = ap (λ (n : ℕ). nodeOf b (taken takes n) (c .node + 1) x) (add-one (c .ordinal)) ∙ ap (λ (n : ℕ). nodeOf b (taken takes (suc (c .ordinal))) n x) (add-one (c .node))
+      same = ap (λ (n : ℕ). nodeOf b (taken takes n) (c .node + 1) x) (add-one (c .ordinal))
+          ∙ ap (λ (n : ℕ). nodeOf b (taken takes (suc (c .ordinal))) n x) (add-one (c .node))
 
 -- ---- scalars
 
@@ -132,10 +139,12 @@ pub refused-is : (scan : Scan) (code at : ℕ) (r : Step) → r ≡ refusalOf sc
 unfolding refusalOf
 refused-is scan code at r e q = e ∙ ap (λ (x : Scan). refusalOf x at) q
 
-pub meets-bad : (s t t′ : List ℕ) (capacity : ℕ) (c : Cursor) (o : Answer (Value × List ℕ)) (r : Step) (code at : ℕ) → r ≡ Step.Refused code at → o ≡ refused code at → Meets s t t′ capacity c o r
+pub meets-bad : (s t t′ : List ℕ) (capacity : ℕ) (c : Cursor) (o : Answer (Value × List ℕ)) (r : Step) (code at : ℕ) → r ≡ Step.Refused code at
+    → o ≡ refused code at → Meets s t t′ capacity c o r
 meets-bad s t t′ capacity c o r code at e h = subst (Meets s t t′ capacity c o) (sym e) h
 
-pub meets-by : (s t t′ : List ℕ) (capacity : ℕ) (c : Cursor) (o o′ : Answer (Value × List ℕ)) (r : Step) → o ≡ o′ → Meets s t t′ capacity c o′ r → Meets s t t′ capacity c o r
+pub meets-by : (s t t′ : List ℕ) (capacity : ℕ) (c : Cursor) (o o′ : Answer (Value × List ℕ)) (r : Step) → o ≡ o′ → Meets s t t′ capacity c o′ r
+    → Meets s t t′ capacity c o r
 meets-by s t t′ capacity c o o′ r e h = subst (λ (x : Answer (Value × List ℕ)). Meets s t t′ capacity c x r) (sym e) h
 
 -- a copy of the cursor
@@ -157,16 +166,22 @@ module _ (s : List ℕ) (capacity : ℕ) (c : Cursor) (b : ℕ) (is : scalarTag 
   unfolding bodyAt
   opened = body-scalar (setting capacity s) inner b (c .at) (c .ordinal) (c .node) (drop (c .at + 1) s) is
 
-  pub scalar-not : (t t′ : List ℕ) (scan : Scan) (code : ℕ) (r : Step) → Scans (scalarText (kindFor b)) (scalarTold (c .at + 1)) s (c .at + 1) scan → scan ≡ Scan.Not code → r ≡ refusalOf scan (c .at)
+  pub scalar-not : (t t′ : List ℕ) (scan : Scan) (code : ℕ) (r : Step) → Scans (scalarText (kindFor b)) (scalarTold (c .at + 1)) s (c .at + 1) scan
+      → scan ≡ Scan.Not code → r ≡ refusalOf scan (c .at)
       → Meets s t t′ capacity c (bodyAt s capacity inner b c) r
   scalar-not t t′ scan code r h e q =
       meets-bad s t t′ capacity c (bodyAt s capacity inner b c) r code (c .at) (refused-is scan code (c .at) r q e) (opened ∙ rw (unfit-of h e (c .at)))
 
-  pub scalar-good : (t t′ : List ℕ) (x : Text) (c′ : Cursor) → Fit s t capacity c → c .node < capacity → Found (scalarText (kindFor b)) (scalarTold (c .at + 1)) s (c .at + 1) x → NodeAdded t t′ c b x true c′
+  pub scalar-good : (t t′ : List ℕ) (x : Text) (c′ : Cursor) → Fit s t capacity c → c .node < capacity
+      → Found (scalarText (kindFor b)) (scalarTold (c .at + 1)) s (c .at + 1) x → NodeAdded t t′ c b x true c′
       → GoodValue s t t′ capacity c (bodyAt s capacity inner b c) c′
   scalar-good t t′ x c′ fit room f p =
-      leaf-good s t t′ capacity c c′ b x true fit room p (bodyAt s capacity inner b c) (leaf (f .what)) (opened ∙ rw (f .is (c .at))) (omega (arith, f .on)) (f .inside) refl refl
-      (λ to q. ap (λ (n : Node). n ∷ []) (scalar-node b (c .at) (c .at) (c .node) (suc (c .ordinal)) (x .next) (drop (c .at + 1) s) (f .what, drop (x .next) s) is (f .is (c .at))
+      leaf-good s t t′ capacity c c′ b x true fit room p (bodyAt s capacity inner b c) (leaf (f .what)) (opened ∙ rw (f .is (c .at))) (omega (arith, f .on))
+      (f .inside) refl refl
+      (λ to q. ap (λ (n : Node). n ∷ []) (scalar-node b (c .at) (c .at) (c .node) (suc (c .ordinal)) (x .next) (drop (c .at + 1) s) (
+        f .what,
+        drop (x .next) s,
+      ) is (f .is (c .at))
       ∙ ap (nodeOf b (suc (c .ordinal)) (suc (c .node))) (sym (f .tells))))
       (λ to r u. r)
 
@@ -177,7 +192,8 @@ module _ (s : List ℕ) (capacity : ℕ) (c : Cursor) (b : ℕ) (is : referenceT
   unfolding bodyAt
   named-at = body-reference (setting capacity s) inner b (c .at) (c .ordinal) (c .node) (drop (c .at + 1) s) is
 
-  pub reference-not : (t t′ : List ℕ) (scan : Scan) (code : ℕ) (r : Step) → Scans namedText valueTold s (c .at + 1) scan → scan ≡ Scan.Not code → r ≡ refusalOf scan (c .at)
+  pub reference-not : (t t′ : List ℕ) (scan : Scan) (code : ℕ) (r : Step) → Scans namedText valueTold s (c .at + 1) scan → scan ≡ Scan.Not code
+      → r ≡ refusalOf scan (c .at)
       → Meets s t t′ capacity c (bodyAt s capacity inner b c) r
   reference-not t t′ scan code r h e q =
       meets-bad s t t′ capacity c (bodyAt s capacity inner b c) r code (c .at) (refused-is scan code (c .at) r q e) (named-at ∙ rw (unfit-of h e (c .at)))
@@ -208,10 +224,13 @@ module _ (s : List ℕ) (capacity : ℕ) (c : Cursor) (b : ℕ) (is : referenceT
             earlier : ℕ → Answer (Value × List ℕ)
             earlier n = require (ltb 0 n && leb n (c .ordinal)) 6 (c .at) >>= λ u. ok (ref reference, drop (x .next) s)
 
-        pub reference-good : (t t′ : List ℕ) (target next : ℕ) (c′ : Cursor) (takes : Bool) → Fit s t capacity c → c .node < capacity → next ≡ x .next → takes ≡ hasOrdinal b → CarrierIn t 0 (c .node) (x .content) target
-            → NodeAdded t t′ c b (record { content = x .content; size = 0; link = target; next = next }) takes c′ → GoodValue s t t′ capacity c (bodyAt s capacity inner b c) c′
+        pub reference-good : (t t′ : List ℕ) (target next : ℕ) (c′ : Cursor) (takes : Bool) → Fit s t capacity c → c .node < capacity → next ≡ x .next
+            → takes ≡ hasOrdinal b → CarrierIn t 0 (c .node) (x .content) target
+            → NodeAdded t t′ c b (record { content = x .content; size = 0; link = target; next = next }) takes c′
+            → GoodValue s t t′ capacity c (bodyAt s capacity inner b c) c′
         reference-good t t′ target next c′ takes fit room n e found p =
-            leaf-good s t t′ capacity c c′ b (record { content = x .content; size = 0; link = target; next = next }) takes fit room p (bodyAt s capacity inner b c) (ref reference)
+            leaf-good s t t′ capacity c c′ b (record { content = x .content; size = 0; link = target; next = next }) takes fit room p
+            (bodyAt s capacity inner b c) (ref reference)
             (accepted ∙ ap (λ (k : ℕ). ok (ref reference, drop k s)) (sym n)) (omega (arith, f .on)) (omega (arith, f .inside)) refl (ap one own-is)
             (λ to q. ap (λ (r : Node). r ∷ []) (rows to q))
             (λ to r u. r (subst T (sym own-is) u))
@@ -222,7 +241,8 @@ module _ (s : List ℕ) (capacity : ℕ) (c : Cursor) (b : ℕ) (is : referenceT
             row : (tag ordinal content link : ℕ) → Node
             row tag ordinal content link = record { tag = tag; ordinal = ordinal; content = content; size = 0; link = link; end = suc (c .node) }
 
-            rows : (to : ℕ → ℕ) → Points to t (c .node) (c .ordinal) → refNode (to (f .what .1)) (c .node) (suc (c .ordinal)) reference ≡ row b (taken takes (suc (c .ordinal))) (x .content) target
+            rows : (to : ℕ → ℕ) → Points to t (c .node) (c .ordinal)
+                → refNode (to (f .what .1)) (c .node) (suc (c .ordinal)) reference ≡ row b (taken takes (suc (c .ordinal))) (x .content) target
             rows to q =
                 ap (λ (k : ℕ). row k (taken (own reference) (suc (c .ordinal))) (f .what .1) (to (f .what .1))) (ref-tag b is)
                 ∙ ap (λ (o : Bool). row b (taken o (suc (c .ordinal))) (f .what .1) (to (f .what .1))) own-is

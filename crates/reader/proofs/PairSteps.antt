@@ -28,10 +28,12 @@ use Rattle.keys.specs.declared.KeyWords.{KeyWords}
 use Rattle.keys.specs.KeyWords.{keyWordsAt, keyWordsIn, Held}
 use Rattle.reader.specs.Texts.{isArrayTag}
 use Rattle.reader.specs.KeysSeen.{Chain, none, pair, Walk, Known, next}
-use Rattle.reader.specs.Steps.{Points, Takes, TakesIn, Fit, KeptBelow, WroteIn, GoodValue, GoodPairs, GoodKey, MeetsPairs, Earlier, Remembers, innerAt, valueAt, pairsAt, keyAt}
+use Rattle.reader.specs.Steps.{Points, Takes, TakesIn, Fit, KeptBelow, WroteIn, GoodValue, GoodPairs, GoodKey, MeetsPairs, Earlier, Remembers, innerAt}
+use Rattle.reader.specs.Steps.{valueAt, pairsAt, keyAt}
 use Rattle.key_filter.proofs.Marking.{grows-none, grows-on}
 use Rattle.reader.proofs.KeyLaws.{chain-le, known-grows}
-use Rattle.reader.proofs.Snoc.{snoc, onto, onto-none, onto-done, onto-refused, onto-snoc, nodes-snoc, ordinals-snoc, key-adds, write-adds, length-snoc, ordinals-le, flat-append, table-snoc, takes-snoc}
+use Rattle.reader.proofs.Snoc.{snoc, onto, onto-none, onto-done, onto-refused, onto-snoc, nodes-snoc, ordinals-snoc, key-adds, write-adds, length-snoc}
+use Rattle.reader.proofs.Snoc.{ordinals-le, flat-append, table-snoc, takes-snoc}
 use Rattle.reader.proofs.Stored.{run-kept, run-word, points-kept, points-skip}
 
 -- ---- the pairs in the table grow at their end
@@ -101,7 +103,8 @@ run-start s t m capacity container count c f =
       filter-long = refl;
     }
 
-module _ {s t₀ t m₀ m : List ℕ} {capacity container count : ℕ} {c₀ c : Cursor} {more : ℕ} {seen : Seen} (r : Run s t₀ t m₀ m capacity container count c₀ c more seen) where
+module _ {s t₀ t m₀ m : List ℕ} {capacity container count : ℕ} {c₀ c : Cursor} {more : ℕ} {seen : Seen}
+    (r : Run s t₀ t m₀ m capacity container count c₀ c more seen) where
   pub run-walk : Walk s t (c₀ .node) (c .node)
   run-walk = record { keys = r .keys .keys; chain = r .keys .chain }
 
@@ -137,7 +140,8 @@ module _ {s t₀ t m₀ m : List ℕ} {capacity container count : ℕ} {c₀ c :
     run-key-bad code at e = rest-bad code at (go more some)
       where
         go : (m : ℕ) → 0 < m
-            → readPairs (setting capacity s) (innerAt s capacity (c₀ .levels)) (isArrayTag container) m (r .earlier) (c .ordinal) (c .node) (drop (c .at) s) ≡ refused code at
+            → readPairs (setting capacity s) (innerAt s capacity (c₀ .levels)) (isArrayTag container) m (r .earlier) (c .ordinal) (c .node)
+            (drop (c .at) s) ≡ refused code at
         go zero h = absurd (omega arith)
         go (suc m) h = rw e
 
@@ -155,7 +159,8 @@ module _ {s t₀ t m₀ m : List ℕ} {capacity container count : ℕ} {c₀ c :
       run-value-bad code at e = rest-bad code at (go more some)
         where
           go : (m : ℕ) → 0 < m
-              → readPairs (setting capacity s) (innerAt s capacity (c₀ .levels)) (isArrayTag container) m (r .earlier) (c .ordinal) (c .node) (drop (c .at) s) ≡ refused code at
+              → readPairs (setting capacity s) (innerAt s capacity (c₀ .levels)) (isArrayTag container) m (r .earlier) (c .ordinal) (c .node)
+              (drop (c .at) s) ≡ refused code at
           go zero h = absurd (omega arith)
           go (suc m) h = rw (k .is, value-is, e)
 
@@ -169,14 +174,25 @@ module _ {s t₀ t m₀ m : List ℕ} {capacity container count : ℕ} {c₀ c :
           let f = r .fit in
           omega (arith, ap length w, key-adds (k .key) (drop (mid .at) s), length-drop (c .at) s, length-drop (mid .at) s, k .inside, k .on)
 
-      module _ (t₂ : List ℕ) (after : Cursor) (g : GoodValue s t₁ t₂ capacity mid (valueAt s capacity mid) after) (l₁ : length t₁ ≡ length t) (l₂ : length t₂ ≡ length t₁)
-          (m₁ m₂ : List ℕ) (n₁ : length m₁ ≡ length m) (n₂ : length m₂ ≡ length m₁) (step : Step) (done : step ≡ Step.Done mid) (a : Remembers s t t₁ m m₁ (c₀ .node) (c .node) seen step) (b : Grows m₁ m₂)
+      module _ (t₂ : List ℕ) (after : Cursor) (g : GoodValue s t₁ t₂ capacity mid (valueAt s capacity mid) after) (l₁ : length t₁ ≡ length t)
+          (l₂ : length t₂ ≡ length t₁)
+          (m₁ m₂ : List ℕ) (n₁ : length m₁ ≡ length m) (n₂ : length m₂ ≡ length m₁) (step : Step) (done : step ≡ Step.Done mid)
+          (a : Remembers s t t₁ m m₁ (c₀ .node) (c .node) seen step) (b : Grows m₁ m₂)
           (seen′ : Seen) (w : KeyWords) (of-key : w ≡ keyWordsIn t₁ (c .node)) (e : seen′ ≡ next seen w) where
         value-long : after .at ≡ mid .at + length (write (g .value) [])
         unfolding valueAt
         value-long =
             let w = value-written (setting capacity s) (mid .levels) (mid .ordinal) (mid .node) (drop (mid .at) s) (g .value, drop (after .at) s) (g .is) in
-            omega (arith, ap length w, write-adds (g .value) (drop (after .at) s), length-drop (after .at) s, length-drop (mid .at) s, k .inside, g .inside, g .on)
+            omega (
+              arith,
+              ap length w,
+              write-adds (g .value) (drop (after .at) s),
+              length-drop (after .at) s,
+              length-drop (mid .at) s,
+              k .inside,
+              g .inside,
+              g .on,
+            )
 
         rest-good : restAt s capacity container (c₀ .levels) more (r .earlier) c
             ≡ (restAt s capacity container (c₀ .levels) (more - 1) (k .key ∷ r .earlier) after >>= λ q. ok (tree.pair (k .key) (g .value) (q .0), q .1))
@@ -185,7 +201,8 @@ module _ {s t₀ t m₀ m : List ℕ} {capacity container count : ℕ} {c₀ c :
           where
             go : (m : ℕ) → 0 < m
                 → readPairs (setting capacity s) (innerAt s capacity (c₀ .levels)) (isArrayTag container) m (r .earlier) (c .ordinal) (c .node) (drop (c .at) s)
-                ≡ (readPairs (setting capacity s) (innerAt s capacity (c₀ .levels)) (isArrayTag container) (m - 1) (k .key ∷ r .earlier) (after .ordinal) (after .node) (drop (after .at) s)
+                ≡ (readPairs (setting capacity s) (innerAt s capacity (c₀ .levels)) (isArrayTag container) (m - 1) (k .key ∷ r .earlier) (after .ordinal)
+                (after .node) (drop (after .at) s)
                 >>= λ q. ok (tree.pair (k .key) (g .value) (q .0), q .1))
             go zero h = absurd (omega arith)
             go (suc m) h =
@@ -215,14 +232,19 @@ module _ {s t₀ t m₀ m : List ℕ} {capacity container count : ℕ} {c₀ c :
         listed =
             record {
               keys = r .keys .keys ++ (k .key ∷ []);
-              chain = chain-more t₂ (k .key) (after .node) same-below (held-kept t₁ t₂ (k .key) (c .node) (λ j h. g .kept (c .node * width + j) (omega (arith, k .node))) (k .held)) ends (omega (arith, g .node, k .node, nodes-some (g .value))) (r .keys .chain);
+              chain = chain-more t₂ (k .key) (after .node) same-below
+                  (held-kept t₁ t₂ (k .key) (c .node) (λ j h. g .kept (c .node * width + j) (omega (arith, k .node))) (k .held)) ends
+                  (omega (arith, g .node, k .node, nodes-some (g .value))) (r .keys .chain);
               same = λ x. ap (λ (b : Bool). sameKey x (k .key) || b) (r .keys .same x) ∙ sym (has-snoc x (k .key) (r .keys .keys));
-              known = subst (λ (z : Seen). Known z m₂ (c₀ .node) (r .keys .keys ++ (k .key ∷ []))) (sym (e ∙ ap (next seen) (of-key ∙ key-there t₁ (c .node) (omega (arith, k .node, k .fits, r .fit, l₁)))))
-                  (known-grows (next seen (keyWordsAt t₁ (c .node))) m₁ m₂ (c₀ .node) (r .keys .keys ++ (k .key ∷ [])) b (a .known mid done (k .key) (r .keys .keys) (k .held) (r .keys .chain) (r .keys .known)));
+              known = subst (λ (z : Seen). Known z m₂ (c₀ .node) (r .keys .keys ++ (k .key ∷ [])))
+                  (sym (e ∙ ap (next seen) (of-key ∙ key-there t₁ (c .node) (omega (arith, k .node, k .fits, r .fit, l₁)))))
+                  (known-grows (next seen (keyWordsAt t₁ (c .node))) m₁ m₂ (c₀ .node) (r .keys .keys ++ (k .key ∷ [])) b
+                  (a .known mid done (k .key) (r .keys .keys) (k .held) (r .keys .chain) (r .keys .known)));
             }
 
         writes : (to : ℕ → ℕ) → Points to t₀ (c₀ .node) (c₀ .ordinal) → TakesIn to (c₀ .node) (suc (c₀ .ordinal)) (snoc (r .pairs) (k .key) (g .value))
-            → (t₂ ≡ sets t₀ (c₀ .node * width) (flat (tableIn to (c₀ .at) (c₀ .node) (suc (c₀ .ordinal)) (snoc (r .pairs) (k .key) (g .value))))) × Points to t₂ (after .node) (after .ordinal)
+            → (t₂ ≡ sets t₀ (c₀ .node * width) (flat (tableIn to (c₀ .at) (c₀ .node) (suc (c₀ .ordinal)) (snoc (r .pairs) (k .key) (g .value)))))
+            × Points to t₂ (after .node) (after .ordinal)
         writes to p q =
             let q′ = takes-snoc to (r .pairs) (k .key) (g .value) (c₀ .node) (suc (c₀ .ordinal)) q in
             let w₀ = r .wrote .of to p (q′ .0) in
@@ -238,7 +260,12 @@ module _ {s t₀ t m₀ m : List ℕ} {capacity container count : ℕ} {c₀ c :
                   ∙ sets-append ks (vs to) t (c .node * width) (mid .node * width) (omega (arith, k .node))
                   ∙ ap (λ (u : List ℕ). sets u (c .node * width) (ks ++ vs to)) (w₀ .0)
                   ∙ sets-append (before to) (ks ++ vs to) t₀ (c₀ .node * width) (c .node * width)
-                  (omega (arith, flat-length (tableIn to (c₀ .at) (c₀ .node) (suc (c₀ .ordinal)) (r .pairs)), tableIn-length to (r .pairs) (c₀ .at) (c₀ .node) (suc (c₀ .ordinal)), r .node))
+                  (omega (
+                    arith,
+                    flat-length (tableIn to (c₀ .at) (c₀ .node) (suc (c₀ .ordinal)) (r .pairs)),
+                    tableIn-length to (r .pairs) (c₀ .at) (c₀ .node) (suc (c₀ .ordinal)),
+                    r .node,
+                  ))
                   ∙ ap (sets t₀ (c₀ .node * width)) (rows to),
               w₁ .1,
             )
@@ -262,12 +289,17 @@ module _ {s t₀ t m₀ m : List ℕ} {capacity container count : ℕ} {c₀ c :
             next-node = omega (arith, k .node)
 
             rows : (to : ℕ → ℕ)
-                → before to ++ (words (keyNode (c .at) (c .node) (k .key)) ++ vs to) ≡ flat (tableIn to (c₀ .at) (c₀ .node) (suc (c₀ .ordinal)) (snoc (r .pairs) (k .key) (g .value)))
+                → before to ++ (words (keyNode (c .at) (c .node) (k .key)) ++ vs to) ≡ flat
+                (tableIn to (c₀ .at) (c₀ .node) (suc (c₀ .ordinal)) (snoc (r .pairs) (k .key) (g .value)))
             rows to =
-                sym (ap flat (table-snoc to (r .pairs) (k .key) (g .value) (c₀ .at) (c₀ .node) (suc (c₀ .ordinal)) (c .at) (c .node) (suc (mid .ordinal)) (r .behind) (r .node) (sym ordinals-are))
-                ∙ flat-append (tableIn to (c₀ .at) (c₀ .node) (suc (c₀ .ordinal)) (r .pairs)) (keyNode (c .at) (c .node) (k .key) ∷ table to (valueOffset (c .at) (k .key)) (suc (c .node)) (suc (mid .ordinal)) (g .value))
-                ∙ ap (λ (n : ℕ). before to ++ (words (keyNode (c .at) (c .node) (k .key)) ++ flat (table to n (suc (c .node)) (suc (mid .ordinal)) (g .value)))) (sym key-long)
-                ∙ ap (λ (n : ℕ). before to ++ (words (keyNode (c .at) (c .node) (k .key)) ++ flat (table to (mid .at) n (suc (mid .ordinal)) (g .value)))) next-node)
+                sym (ap flat (table-snoc to (r .pairs) (k .key) (g .value) (c₀ .at) (c₀ .node) (suc (c₀ .ordinal)) (c .at) (c .node) (suc (mid .ordinal))
+                (r .behind) (r .node) (sym ordinals-are))
+                ∙ flat-append (tableIn to (c₀ .at) (c₀ .node) (suc (c₀ .ordinal)) (r .pairs))
+                (keyNode (c .at) (c .node) (k .key) ∷ table to (valueOffset (c .at) (k .key)) (suc (c .node)) (suc (mid .ordinal)) (g .value))
+                ∙ ap (λ (n : ℕ). before to
+                ++ (words (keyNode (c .at) (c .node) (k .key)) ++ flat (table to n (suc (c .node)) (suc (mid .ordinal)) (g .value)))) (sym key-long)
+                ∙ ap (λ (n : ℕ). before to ++ (words (keyNode (c .at) (c .node) (k .key)) ++ flat (table to (mid .at) n (suc (mid .ordinal)) (g .value))))
+                next-node)
 
         pub run-more : Run s t₀ t₂ m₀ m₂ capacity container count c₀ after (more - 1) seen′
         run-more =
@@ -290,7 +322,12 @@ module _ {s t₀ t m₀ m : List ℕ} {capacity container count : ℕ} {c₀ c :
             }
           where
             fits : Fit s t capacity c → Fit s t₂ capacity after
-            fits f = record { inside = g .inside; table = omega arith; node = g .fits; ordinal = omega (arith, g .ordinal, g .node, k .ordinal, k .node, ordinals-le (g .value)) }
+            fits f = record {
+              inside = g .inside;
+              table = omega arith;
+              node = g .fits;
+              ordinal = omega (arith, g .ordinal, g .node, k .ordinal, k .node, ordinals-le (g .value));
+            }
 
 pub pairs-bad : (s t t′ : List ℕ) (capacity : ℕ) (c : Cursor) (o : Answer (Values × List ℕ)) (r : Step) (code at : ℕ) → r ≡ Step.Refused code at
     → o ≡ refused code at → MeetsPairs s t t′ capacity c o r

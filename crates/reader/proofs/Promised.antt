@@ -29,7 +29,8 @@ took : (capacity : ℕ) (source : List ℕ) (n : Counts) (a : Answer Value) → 
 took capacity source n (ok v) r e = record { value = v; read = r; counted = ok-same e }
 took capacity source n (refused code at) r e = absurd (not-both (sym e))
 
-pub accepted : {source before after : List ℕ} {nodes ordinals : ℕ} → Reads source before after (Reading.Accepted nodes ordinals) → Took (capacityOf before) source (record { nodes = nodes; ordinals = ordinals })
+pub accepted : {source before after : List ℕ} {nodes ordinals : ℕ} → Reads source before after (Reading.Accepted nodes ordinals)
+    → Took (capacityOf before) source (record { nodes = nodes; ordinals = ordinals })
 unfolding answer readingAnswer
 accepted {source} {before} reads = took (capacityOf before) source _ (read (capacityOf before) source) refl (reads .answer)
 
@@ -47,6 +48,7 @@ stopped (refused c p) code at e = same e
     same : {A B : Type 0} {c p d q : ℕ} → _≡_ {A = Answer A} (refused c p) (refused d q) → _≡_ {A = Answer B} (refused d q) (refused c p)
     same e = cc
 
-pub refusal : {source before after : List ℕ} {code at : ℕ} → Reads source before after (Reading.Refused code at) → read (capacityOf before) source ≡ refused code at
+pub refusal : {source before after : List ℕ} {code at : ℕ} → Reads source before after (Reading.Refused code at)
+    → read (capacityOf before) source ≡ refused code at
 unfolding answer readingAnswer
 refusal {source} {before} {after} {code} {at} reads = stopped (read (capacityOf before) source) code at (reads .answer)

@@ -15,9 +15,12 @@ use Rattle.reader.specs.Texts.{kindFor, scalarTag, keyTold}
 use Rattle.reader.proofs.Tagged.{one-of}
 
 -- a scalar's tag decides its kind
-pub scalar-behind : {s : List ℕ} {at b : ℕ} {r : Scan} → scalarTag b → Scans (scalarBehind b) (scalarTold at) s at r → Scans (scalarText (kindFor b)) (scalarTold at) s at r
+pub scalar-behind : {s : List ℕ} {at b : ℕ} {r : Scan} → scalarTag b → Scans (scalarBehind b) (scalarTold at) s at r
+    → Scans (scalarText (kindFor b)) (scalarTold at) s at r
 unfolding scalarBehind kindFor
-scalar-behind o h = scans-same (λ l s. ⊎-elim (λ e. rw e) (λ o. ⊎-elim (λ e. rw e) (λ o. ⊎-elim (λ e. rw e) (λ o. ⊎-elim (λ e. rw e) (λ o. ⊎-elim (λ e. rw e) (λ z. absurd z) o) o) o) o) o) h
+scalar-behind o h = scans-same
+    (λ l s. ⊎-elim (λ e. rw e) (λ o. ⊎-elim (λ e. rw e) (λ o. ⊎-elim (λ e. rw e) (λ o. ⊎-elim (λ e. rw e) (λ o. ⊎-elim (λ e. rw e) (λ z. absurd z) o) o) o) o)
+    o) h
 
 module _ (s : List ℕ) (at b : ℕ) (r : Scan) where
   as-key : (k : Kind) → kindFor b ≡ k → Scans (keyText k) (keyTold at) s at r → Scans (keyText (kindFor b)) (keyTold at) s at r
@@ -25,14 +28,18 @@ module _ (s : List ℕ) (at b : ℕ) (r : Scan) where
 
   key-int : b ≡ tag Kind.int → Scans (scalarBehind b) (scalarTold at) s at r → Scans (keyText (kindFor b)) (keyTold at) s at r
   unfolding keyText kindFor scalarBehind scalarText
-  key-int e h = as-key Kind.int (rw e) (scans-map {read = intText} intKey (λ l s. refl) (λ x next. refl) (scans-back {told = literalTold} int (λ x y i. same i) (λ l s. rw e) (λ x next. refl) h))
+  key-int e h = as-key Kind.int (rw e)
+      (scans-map {read = intText} intKey (λ l s. refl) (λ x next. refl)
+      (scans-back {told = literalTold} int (λ x y i. same i) (λ l s. rw e) (λ x next. refl) h))
     where
       same : {x y : Literal} → _≡_ {A = Scalar} (int x) (int y) → x ≡ y
       same i = cc
 
   key-string : b ≡ tag Kind.string → Scans (scalarBehind b) (scalarTold at) s at r → Scans (keyText (kindFor b)) (keyTold at) s at r
   unfolding keyText kindFor scalarBehind scalarText
-  key-string e h = as-key Kind.string (rw e) (scans-map {read = λ l. quotedText l (bytes "\";")} stringKey (λ l s. refl) (λ x next. refl) (scans-back {told = quotedTold at} string (λ x y i. same i) (λ l s. rw e) (λ x next. refl) h))
+  key-string e h = as-key Kind.string (rw e)
+      (scans-map {read = λ l. quotedText l (bytes "\";")} stringKey (λ l s. refl) (λ x next. refl)
+      (scans-back {told = quotedTold at} string (λ x y i. same i) (λ l s. rw e) (λ x next. refl) h))
     where
       same : {x y : Quoted} → _≡_ {A = Scalar} (string x) (string y) → x ≡ y
       same i = cc

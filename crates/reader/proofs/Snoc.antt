@@ -70,11 +70,19 @@ key-adds k r = ap length (key-front k [] r) ∙ length-append (writeKey k []) r
 pub write-adds : (v : Value) (r : List ℕ) → length (write v r) ≡ length (write v []) + length r
 write-adds v r = ap length (write-front v [] r) ∙ length-append (write v []) r
 
-pub length-snoc : (ps : Values) (k : Key) (v : Value) → length (writePairs (snoc ps k v) []) ≡ length (writePairs ps []) + length (writeKey k []) + length (write v [])
+pub length-snoc : (ps : Values) (k : Key) (v : Value) → length (writePairs (snoc ps k v) []) ≡ length (writePairs ps []) + length (writeKey k []) + length
+    (write v [])
 unfolding write
 length-snoc none k v = omega (arith, key-adds k (write v []))
 length-snoc (pair j u ps) k v =
-    omega (arith, key-adds j (write u (writePairs (snoc ps k v) [])), write-adds u (writePairs (snoc ps k v) []), key-adds j (write u (writePairs ps [])), write-adds u (writePairs ps []), length-snoc ps k v)
+    omega (
+      arith,
+      key-adds j (write u (writePairs (snoc ps k v) [])),
+      write-adds u (writePairs (snoc ps k v) []),
+      key-adds j (write u (writePairs ps [])),
+      write-adds u (writePairs ps []),
+      length-snoc ps k v,
+    )
 
 mutual
   pub ordinals-le : (v : Value) → ordinals own v ≤ nodes v
@@ -92,11 +100,13 @@ pub flat-append : (a b : List Node) → flat (a ++ b) ≡ flat a ++ flat b
 flat-append [] b = refl
 flat-append (r ∷ a) b = ap (λ (x : List ℕ). words r ++ x) (flat-append a b)
 
-pub table-snoc : (to : ℕ → ℕ) (ps : Values) (k : Key) (v : Value) (o i n o′ i′ n′ : ℕ) → o′ ≡ o + length (writePairs ps []) → i′ ≡ i + nodesIn ps → n′ ≡ n + ordinalsIn own ps
+pub table-snoc : (to : ℕ → ℕ) (ps : Values) (k : Key) (v : Value) (o i n o′ i′ n′ : ℕ) → o′ ≡ o + length (writePairs ps []) → i′ ≡ i + nodesIn ps
+    → n′ ≡ n + ordinalsIn own ps
     → tableIn to o i n (snoc ps k v) ≡ tableIn to o i n ps ++ (keyNode o′ i′ k ∷ table to (valueOffset o′ k) (suc i′) n′ v)
 unfolding write
 table-snoc to none k v o i n o′ i′ n′ a b c =
-    ap (λ (x : List Node). keyNode o i k ∷ x) (append-nil (table to (valueOffset o k) (suc i) n v)) ∙ same (sym (a ∙ add-zero o)) (sym (b ∙ add-zero i)) (sym (c ∙ add-zero n))
+    ap (λ (x : List Node). keyNode o i k ∷ x) (append-nil (table to (valueOffset o k) (suc i) n v))
+    ∙ same (sym (a ∙ add-zero o)) (sym (b ∙ add-zero i)) (sym (c ∙ add-zero n))
   where
     same : o ≡ o′ → i ≡ i′ → n ≡ n′ → keyNode o i k ∷ table to (valueOffset o k) (suc i) n v ≡ keyNode o′ i′ k ∷ table to (valueOffset o′ k) (suc i′) n′ v
     same x y z = rw (x, y, z)
@@ -105,11 +115,13 @@ table-snoc to (pair j u ps) k v o i n o′ i′ n′ a b c =
     (table-snoc to ps k v (nextOffset o j u) (suc (i + nodes u)) (n + ordinals own u) o′ i′ n′
     (omega (arith, a, key-adds j (write u (writePairs ps [])), key-adds j (write u []), write-adds u (writePairs ps []))) (omega (arith, b)) (omega (arith, c)))
     ∙ ap (λ (x : List Node). keyNode o i j ∷ x)
-    (sym (append-assoc (table to (valueOffset o j) (suc i) n u) (tableIn to (nextOffset o j u) (suc (i + nodes u)) (n + ordinals own u) ps) (keyNode o′ i′ k ∷ table to (valueOffset o′ k) (suc i′) n′ v)))
+    (sym (append-assoc (table to (valueOffset o j) (suc i) n u) (tableIn to (nextOffset o j u) (suc (i + nodes u)) (n + ordinals own u) ps)
+    (keyNode o′ i′ k ∷ table to (valueOffset o′ k) (suc i′) n′ v)))
 
 -- ---- the ordinals that they take
 
-pub takes-snoc : (to : ℕ → ℕ) (ps : Values) (k : Key) (v : Value) (i n : ℕ) → TakesIn to i n (snoc ps k v) → TakesIn to i n ps × Takes to (suc (i + nodesIn ps)) (n + ordinalsIn own ps) v
+pub takes-snoc : (to : ℕ → ℕ) (ps : Values) (k : Key) (v : Value) (i n : ℕ) → TakesIn to i n (snoc ps k v)
+    → TakesIn to i n ps × Takes to (suc (i + nodesIn ps)) (n + ordinalsIn own ps) v
 takes-snoc to none k v i n q = (tt, subst₂ (λ a b. Takes to a b v) (ap suc (sym (add-zero i))) (sym (add-zero n)) (q .0))
 takes-snoc to (pair j u ps) k v i n q =
     let r = takes-snoc to ps k v (suc (i + nodes u)) (n + ordinals own u) (q .1) in
@@ -129,7 +141,8 @@ mutual
 
   indicesIn-length : (ps : Values) (i : ℕ) → length (indicesIn i ps) ≡ ordinalsIn own ps
   indicesIn-length none i = refl
-  indicesIn-length (pair k v ps) i = length-append (indices (suc i) v) (indicesIn (suc (i + nodes v)) ps) ∙ ap₂ _+_ (indices-length v (suc i)) (indicesIn-length ps (suc (i + nodes v)))
+  indicesIn-length (pair k v ps) i = length-append (indices (suc i) v) (indicesIn (suc (i + nodes v)) ps)
+      ∙ ap₂ _+_ (indices-length v (suc i)) (indicesIn-length ps (suc (i + nodes v)))
 
 -- `to` names the nodes of a list, from an ordinal on
 abbrev Names : (to : ℕ → ℕ) (n : ℕ) → List ℕ → Type 0

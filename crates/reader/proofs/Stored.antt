@@ -61,7 +61,8 @@ run-word t t′ ws node j e h l = ap (λ (u : List ℕ). getD u (node * width + 
 pub points-none : (to : ℕ → ℕ) (t : List ℕ) → Points to t 0 0
 points-none to t = record { below = λ i h. absurd (omega arith); found = λ n a b. absurd (omega arith); only = λ n i a h e. absurd (omega arith) }
 
-pub points-keep : (to : ℕ → ℕ) (t t′ : List ℕ) (node ordinal : ℕ) → Points to t node ordinal → ((i : ℕ) → i < node → wordAt t′ i ordinalWord ≡ wordAt t i ordinalWord)
+pub points-keep : (to : ℕ → ℕ) (t t′ : List ℕ) (node ordinal : ℕ) → Points to t node ordinal
+    → ((i : ℕ) → i < node → wordAt t′ i ordinalWord ≡ wordAt t i ordinalWord)
     → Points to t′ node ordinal
 points-keep to t t′ node ordinal p k =
     record {
@@ -127,7 +128,8 @@ module _ (to : ℕ → ℕ) (t : List ℕ) (node ordinal : ℕ) (p : Points to t
       go-only n i a h q (above l) = absurd (omega (arith, w, q, here i l h))
 
   -- either
-  pub points-add : (own : Bool) → wordAt t node ordinalWord ≡ taken own (ordinal + 1) → (T own → to (suc ordinal) ≡ node) → Points to t (node + 1) (ordinal + one own)
+  pub points-add : (own : Bool) → wordAt t node ordinalWord ≡ taken own (ordinal + 1) → (T own → to (suc ordinal) ≡ node)
+      → Points to t (node + 1) (ordinal + one own)
   points-add true w e = points-step w (e tt)
   points-add false w e = subst (Points to t (node + 1)) (sym (add-zero ordinal)) (points-skip w)
 

@@ -66,7 +66,8 @@ not-one [] b e o = o
 pub tag-end : (ks : List Kind) (code l : ℕ) (s : List ℕ) (i : ℕ) → length s ≤ i → tagOf ks code l (drop i s) ≡ refused 2 l
 tag-end ks code l s i h = ap (tagOf ks code l) (drop-of-length-le s h)
 
-tag-here : (ks : List Kind) (code l : ℕ) (s : List ℕ) (i : ℕ) → i < length s → tagOf ks code l (drop i s) ≡ (kindOf ks code l (getD s i 0) >>= λ k. ok (k, drop (i + 1) s))
+tag-here : (ks : List Kind) (code l : ℕ) (s : List ℕ) (i : ℕ) → i < length s
+    → tagOf ks code l (drop i s) ≡ (kindOf ks code l (getD s i 0) >>= λ k. ok (k, drop (i + 1) s))
 tag-here ks code l s i h = ap (tagOf ks code l) (drop-cons s i 0 h ∙ ap (λ (k : ℕ). getD s i 0 ∷ drop k s) (sym (add-one i)))
 
 module _ (ks : List Kind) (code l : ℕ) (s : List ℕ) (i b : ℕ) (h : i < length s) (q : getD s i 0 ≡ b) where
@@ -126,8 +127,10 @@ key-is-string b e n = ⊎-elim (λ q. absurd (n q)) (λ o. ⊎-elim (λ q. q) (�
 
 -- ---- the choice among the nine
 
-pub scalar-rest : (b : ℕ) → isTagOf kinds b ≡ true → ((b ≡ tag Kind.object) ⊎ (b ≡ tag Kind.array) → ⊥) → ((b ≡ tag Kind.variableReference) ⊎ (b ≡ tag Kind.objectReference) → ⊥) → scalarTag b
-scalar-rest b e x y = ⊎-elim inl (λ o. inr (⊎-elim inl (λ o. inr (⊎-elim inl (λ o. inr (⊎-elim inl (λ o. inr (⊎-elim inl (λ o. inr (none o)) o)) o)) o)) o)) (one-of kinds b e)
+pub scalar-rest : (b : ℕ) → isTagOf kinds b ≡ true → ((b ≡ tag Kind.object) ⊎ (b ≡ tag Kind.array) → ⊥)
+    → ((b ≡ tag Kind.variableReference) ⊎ (b ≡ tag Kind.objectReference) → ⊥) → scalarTag b
+scalar-rest b e x y = ⊎-elim inl (λ o. inr (⊎-elim inl (λ o. inr (⊎-elim inl (λ o. inr (⊎-elim inl (λ o. inr (⊎-elim inl (λ o. inr (none o)) o)) o)) o)) o))
+    (one-of kinds b e)
   where
     none : OneOf (Kind.array ∷ Kind.object ∷ Kind.objectReference ∷ Kind.variableReference ∷ []) b → ⊥
     none o = ⊎-elim (λ q. x (inr q)) (λ o. ⊎-elim (λ q. x (inl q)) (λ o. ⊎-elim (λ q. y (inr q)) (λ o. ⊎-elim (λ q. y (inl q)) (λ z. z) o) o) o) o

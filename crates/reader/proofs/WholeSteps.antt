@@ -63,11 +63,13 @@ module _ (s : List ℕ) (capacity : ℕ) where
           table = g .wrote .of (targetOf (g .value)) (points-none (targetOf (g .value)) t) (takes-whole (g .value)) .0;
         }
 
-pub whole-refused : (s t t′ : List ℕ) (capacity : ℕ) (r : Step) (code at : ℕ) → r ≡ Step.Refused code at → read capacity s ≡ refused code at → Whole s t t′ capacity r
+pub whole-refused : (s t t′ : List ℕ) (capacity : ℕ) (r : Step) (code at : ℕ) → r ≡ Step.Refused code at → read capacity s ≡ refused code at
+    → Whole s t t′ capacity r
 whole-refused s t t′ capacity r code at e h = subst (Whole s t t′ capacity) (sym e) h
 
 module _ (s t t₁ t₂ : List ℕ) (r : Step) where
-  pub reads-refused : (code at : ℕ) → Whole s t t₁ (length t / width) r → r ≡ Step.Refused code at → t₂ ≡ replicate (length t₁) 0 → length t₁ ≡ length t → Reads s t t₂ (Reading.Refused code at)
+  pub reads-refused : (code at : ℕ) → Whole s t t₁ (length t / width) r → r ≡ Step.Refused code at → t₂ ≡ replicate (length t₁) 0 → length t₁ ≡ length t
+      → Reads s t t₂ (Reading.Refused code at)
   unfolding readingAnswer answer
   reads-refused code at w e k l =
       let q : read (capacityOf t) s ≡ refused code at = subst (Whole s t t₁ (length t / width)) e w in
@@ -79,7 +81,9 @@ module _ (s t t₁ t₂ : List ℕ) (r : Step) where
       let g : GoodWhole s t t₁ (length t / width) c = subst (Whole s t t₁ (length t / width)) e w in
       record {
         answer = ap₂ (λ (n o : ℕ). ok (record { nodes = n; ordinals = o })) (g .node) (g .ordinal) ∙ sym (rw (g .is));
-        table = g .table ∙ sets-eq (flat (tableOf (g .value))) t 0 (fits g) ∙ ap (λ (n : ℕ). flat (tableOf (g .value)) ++ drop n t) (zero-add (length (flat (tableOf (g .value)))) ∙ long g) ∙ sym (after-accepted s t (g .value) (g .is));
+        table = g .table ∙ sets-eq (flat (tableOf (g .value))) t 0 (fits g)
+            ∙ ap (λ (n : ℕ). flat (tableOf (g .value)) ++ drop n t) (zero-add (length (flat (tableOf (g .value)))) ∙ long g)
+            ∙ sym (after-accepted s t (g .value) (g .is));
       }
     where
       long : (g : GoodWhole s t t₁ (length t / width) c) → length (flat (tableOf (g .value))) ≡ nodes (g .value) * width

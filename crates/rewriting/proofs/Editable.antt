@@ -59,7 +59,8 @@ sizes n e key value w =
           leb→le value sourceLimit
           (and-left (leb value sourceLimit) (spotInside n e) (and-right (leb key sourceLimit) c (and-right (leb n sourceLimit) b (T-of w))));
       standing =
-          T-true (spotInside n e) (and-right (leb value sourceLimit) (spotInside n e) (and-right (leb key sourceLimit) c (and-right (leb n sourceLimit) b (T-of w))));
+          T-true (spotInside n e)
+          (and-right (leb value sourceLimit) (spotInside n e) (and-right (leb key sourceLimit) c (and-right (leb n sourceLimit) b (T-of w))));
     }
 
 -- ---- what is written

@@ -61,7 +61,8 @@ module _ (s : List ℕ) (at : ℕ) where
         ∙ f l (drop (at + 1 + 1) s)
         ∙ rw (expect-yes l s (at + 1 + 1) (byte ";") [] (lit< tt) (pair-second s (at + 1) b (byte ";") e)) (ap (λ (k : ℕ). ok (v, drop k s)) (plus-three at))
 
-    bool-is : (v : Bool) (b w : ℕ) → b < 256 → ((l : ℕ) (s₂ : List ℕ) → rest l (b ∷ s₂) ≡ (expect l (bytes ";") s₂ >>= λ s₃. ok (v, s₃))) → w ≡ boolTold v 0 .content
+    bool-is : (v : Bool) (b w : ℕ) → b < 256 → ((l : ℕ) (s₂ : List ℕ) → rest l (b ∷ s₂) ≡ (expect l (bytes ";") s₂ >>= λ s₃. ok (v, s₃)))
+        → w ≡ boolTold v 0 .content
         → (eqb (byteAt s (at + 1)) b && eqb (byteAt s (at + 1 + 1)) (byte ";")) ≡ true → Scans boolText boolTold s at (Scan.Is (tell w 0 0 (at + 3)))
     bool-is v b w h f q e =
         let k : at + 1 + 1 < length s = pair-there s (at + 1) b (byte ";") e (lit< tt) in
@@ -73,10 +74,12 @@ module _ (s : List ℕ) (at : ℕ) where
           inside = omega arith;
         }
 
-    pub bool-zero : (eqb (byteAt s (at + 1)) (byte "0") && eqb (byteAt s (at + 1 + 1)) (byte ";")) ≡ true → Scans boolText boolTold s at (Scan.Is (tell 0 0 0 (at + 3)))
+    pub bool-zero : (eqb (byteAt s (at + 1)) (byte "0") && eqb (byteAt s (at + 1 + 1)) (byte ";")) ≡ true
+        → Scans boolText boolTold s at (Scan.Is (tell 0 0 0 (at + 3)))
     bool-zero e = bool-is false (byte "0") 0 (lit< tt) (λ l s₂. refl) refl e
 
-    pub bool-one : (eqb (byteAt s (at + 1)) (byte "1") && eqb (byteAt s (at + 1 + 1)) (byte ";")) ≡ true → Scans boolText boolTold s at (Scan.Is (tell 1 0 0 (at + 3)))
+    pub bool-one : (eqb (byteAt s (at + 1)) (byte "1") && eqb (byteAt s (at + 1 + 1)) (byte ";")) ≡ true
+        → Scans boolText boolTold s at (Scan.Is (tell 1 0 0 (at + 3)))
     bool-one e = bool-is true (byte "1") 1 (lit< tt) (λ l s₂. refl) refl e
 
     pub bool-not : (eqb (byteAt s (at + 1)) (byte "0") && eqb (byteAt s (at + 1 + 1)) (byte ";")) ≡ false
@@ -88,7 +91,8 @@ module _ (s : List ℕ) (at : ℕ) where
         bare l b h e n v f =
             ap (rest l) (drop-byte s (at + 1) b h e) ∙ f (drop (at + 1 + 1) s) ∙ rw (expect-no l s (at + 1 + 1) (byte ";") [] (rw e at n))
 
-        neither : (l : ℕ) → eqb (byteAt s (at + 1)) (byte "0") ≡ false → eqb (byteAt s (at + 1)) (byte "1") ≡ false → Order (at + 1) (length s) → rest l (drop (at + 1) s) ≡ refused 2 l
+        neither : (l : ℕ) → eqb (byteAt s (at + 1)) (byte "0") ≡ false → eqb (byteAt s (at + 1)) (byte "1") ≡ false → Order (at + 1) (length s)
+            → rest l (drop (at + 1) s) ≡ refused 2 l
         neither l a b (above k) = rw (drop-of-length-le s k)
         neither l a b (below k) = rw (drop-cons s (at + 1) 0 k, sameBytes, flip (byte "0") a, flip (byte "1") b)
           where

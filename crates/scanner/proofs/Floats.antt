@@ -46,7 +46,8 @@ passed-more s at i p h n =
     }
   where
     next : until (byte ";") (drop i s) ≡ getD s i 0 ∷ until (byte ";") (drop (i + 1) s)
-    next = rw (drop-cons s i 0 h, until, ne-eqb (byte ";") (getD s i 0) (λ e. n (sym e))) (ap (λ (k : ℕ). getD s i 0 ∷ until (byte ";") (drop k s)) (sym (add-one i)))
+    next = rw (drop-cons s i 0 h, until, ne-eqb (byte ";") (getD s i 0) (λ e. n (sym e)))
+        (ap (λ (k : ℕ). getD s i 0 ∷ until (byte ";") (drop k s)) (sym (add-one i)))
 
     suc-is : at ≤ i → i + 1 - at ≡ suc (i - at)
     suc-is h = omega arith
@@ -67,7 +68,12 @@ pub semicolon-here : (s : List ℕ) (at i : ℕ) → Passed s at i → i < lengt
 semicolon-here s at i p h e = record { part = passed-stop s at i p (rw (drop-cons s i 0 h, until, e)); stop = λ l. e; inside = omega arith; on = p .on }
 
 pub semicolon-none : (s : List ℕ) (at i : ℕ) → Passed s at i → length s ≤ i → SemicolonAt s at i
-semicolon-none s at i p h = record { part = passed-stop s at i p (ap (until (byte ";")) (drop-of-length-le s h)); stop = λ l. absurd (omega arith); inside = p .inside; on = p .on }
+semicolon-none s at i p h = record {
+  part = passed-stop s at i p (ap (until (byte ";")) (drop-of-length-le s h));
+  stop = λ l. absurd (omega arith);
+  inside = p .inside;
+  on = p .on;
+}
 
 -- ---- a float text up to its semicolon
 

@@ -32,7 +32,8 @@ module _ (s : List ℕ) (at : ℕ) where
       }
   array-is r e (unfit c f) = unfit c (λ l. rw (headText, expect-yes l s at (byte ":") [] (lit< tt) e, f l))
 
-  pub object-not : (r : Scan) (c : ℕ) → Scans (λ l. quotedText l (byte "\"" ∷ byte ":" ∷ [])) (quotedTold at) s at r → r ≡ Scan.Not c → Scans (headText false) (headTold at) s at r
+  pub object-not : (r : Scan) (c : ℕ) → Scans (λ l. quotedText l (byte "\"" ∷ byte ":" ∷ [])) (quotedTold at) s at r → r ≡ Scan.Not c
+      → Scans (headText false) (headTold at) s at r
   unfolding headText
   object-not r c h e = unfit-part h e (λ l q. rw (headText, q))
 
@@ -41,7 +42,8 @@ module _ (s : List ℕ) (at : ℕ) where
     unfolding headText
     object-count r c h e = unfit-part h e (λ l q. rw (headText, n .is l, q))
 
-    pub object-is : (pairs : Text) → Found countText countTold s (name .next) pairs → Scans (headText false) (headTold at) s at (Scan.Is (tell (name .content) (name .size) (pairs .link) (pairs .next)))
+    pub object-is : (pairs : Text) → Found countText countTold s (name .next) pairs
+        → Scans (headText false) (headTold at) s at (Scan.Is (tell (name .content) (name .size) (pairs .link) (pairs .next)))
     unfolding headText
     object-is pairs f =
         found (tell (name .content) (name .size) (pairs .link) (pairs .next)) record {
@@ -49,7 +51,8 @@ module _ (s : List ℕ) (at : ℕ) where
           is = λ l. rw (headText, n .is l, f .is l);
           tells =
               ap (λ (u : Text). tell (u .content) (u .size) (pairs .link) (pairs .next)) (n .tells)
-              ∙ ap (λ (u : Text). tell (quotedTold at (n .what) (name .next) .content) (quotedTold at (n .what) (name .next) .size) (u .link) (pairs .next)) (f .tells);
+              ∙ ap (λ (u : Text). tell (quotedTold at (n .what) (name .next) .content) (quotedTold at (n .what) (name .next) .size) (u .link) (pairs .next))
+              (f .tells);
           on = omega (arith, n .on, f .on);
           inside = f .inside;
         }

@@ -26,7 +26,8 @@ use Rattle.format.proofs.Answers.{ok-same, not-both, bind-ok, bind-refused}
 use Rattle.scanner.specs.declared.Text.{Text}
 use Rattle.scanner.specs.declared.number.Front.{Front}
 use Rattle.scanner.specs.declared.Scan.{Scan}
-use Rattle.scanner.specs.Scans.{Reader, Told, Found, Scans, found, unfit, scanned, scanOf, Answers, countText, namedText, tell, valueTold, literalTold, countTold}
+use Rattle.scanner.specs.Scans.{Reader, Told, Found, Scans, found, unfit, scanned, scanOf, Answers, countText, namedText, tell, valueTold, literalTold}
+use Rattle.scanner.specs.Scans.{countTold}
 use Rattle.scanner.specs.Parts.{digitsText, signedText, signedTold, isMinus, FrontIs}
 use Rattle.bytes_at.specs.ByteAt.{byteAt}
 use Rattle.bytes_at.proofs.BytesAt.{byte-there, expect-yes, expect-no, pair-there, pair-yes, pair-no}
@@ -74,18 +75,22 @@ unfit-part {whole = whole} {tells} {s} {at} {c = c} h e f = subst (Scans whole t
 
 -- a text that is made of another answers as that does
 pub scans-map : {A B : Type 0} {read : Reader A} {told : Told A} {whole : Reader B} {tells : Told B} {s : List ℕ} {at : ℕ} {r : Scan} (f : A → B)
-    → ((l : ℕ) (s : List ℕ) → whole l s ≡ (read l s >>= λ q. ok (f (q .0), q .1))) → ((x : A) (next : ℕ) → told x next ≡ tells (f x) next) → Scans read told s at r → Scans whole tells s at r
+    → ((l : ℕ) (s : List ℕ) → whole l s ≡ (read l s >>= λ q. ok (f (q .0), q .1))) → ((x : A) (next : ℕ) → told x next ≡ tells (f x) next)
+    → Scans read told s at r → Scans whole tells s at r
 scans-map {s = s} {at} f e g (found t h) =
     found t record { what = f (h .what); is = λ l. e l (drop at s) ∙ rw (h .is l); tells = h .tells ∙ g (h .what) (t .next); on = h .on; inside = h .inside }
 scans-map {s = s} {at} f e g (unfit c h) = unfit c (λ l. e l (drop at s) ∙ rw (h l))
 
 -- and the other way round, where what is made tells what it was made of
-pub scans-back : {A B : Type 0} {read : Reader A} {told : Told A} {whole : Reader B} {tells : Told B} {s : List ℕ} {at : ℕ} {r : Scan} (f : A → B) → ((x y : A) → f x ≡ f y → x ≡ y)
-    → ((l : ℕ) (s : List ℕ) → whole l s ≡ (read l s >>= λ q. ok (f (q .0), q .1))) → ((x : A) (next : ℕ) → told x next ≡ tells (f x) next) → Scans whole tells s at r → Scans read told s at r
+pub scans-back : {A B : Type 0} {read : Reader A} {told : Told A} {whole : Reader B} {tells : Told B} {s : List ℕ} {at : ℕ} {r : Scan} (f : A → B)
+    → ((x y : A) → f x ≡ f y → x ≡ y)
+    → ((l : ℕ) (s : List ℕ) → whole l s ≡ (read l s >>= λ q. ok (f (q .0), q .1))) → ((x : A) (next : ℕ) → told x next ≡ tells (f x) next)
+    → Scans whole tells s at r → Scans read told s at r
 scans-back {A} {B} {read} {told} {whole} {tells} {s} {at} f one e g (found t h) =
     found t record {
       what = x;
-      is = λ l. part l .1 ∙ ap₂ (λ (a : A) (u : List ℕ). ok (a, u)) (one (part l .0 .0) x (same l ∙ sym (same 0))) (ap (λ (p : B × List ℕ). p .1) (ok-same (part l .2)));
+      is = λ l. part l .1 ∙ ap₂ (λ (a : A) (u : List ℕ). ok (a, u)) (one (part l .0 .0) x (same l ∙ sym (same 0)))
+          (ap (λ (p : B × List ℕ). p .1) (ok-same (part l .2)));
       tells = h .tells ∙ ap (λ (b : B). tells b (t .next)) (sym (same 0)) ∙ sym (g x (t .next));
       on = h .on;
       inside = h .inside;
@@ -100,10 +105,12 @@ scans-back {A} {B} {read} {told} {whole} {tells} {s} {at} f one e g (found t h) 
     x : A
     x = part 0 .0 .0
 scans-back {A} {B} {read} {s = s} {at} f one e g (unfit c h) =
-    unfit c (λ l. ⊎-elim (λ r. r) (λ q. absurd (not-both (sym (q .2)))) (bind-refused (read l (drop at s)) (λ q. ok (f (q .0), q .1)) c l (sym (e l (drop at s)) ∙ h l)))
+    unfit c (λ l. ⊎-elim (λ r. r) (λ q. absurd (not-both (sym (q .2))))
+    (bind-refused (read l (drop at s)) (λ q. ok (f (q .0), q .1)) c l (sym (e l (drop at s)) ∙ h l)))
 
 -- a text that reads alike answers alike
-pub scans-same : {A : Type 0} {read same : Reader A} {told : Told A} {s : List ℕ} {at : ℕ} {r : Scan} → ((l : ℕ) (s : List ℕ) → same l s ≡ read l s) → Scans read told s at r → Scans same told s at r
+pub scans-same : {A : Type 0} {read same : Reader A} {told : Told A} {s : List ℕ} {at : ℕ} {r : Scan} → ((l : ℕ) (s : List ℕ) → same l s ≡ read l s)
+    → Scans read told s at r → Scans same told s at r
 scans-same {s = s} {at} e (found t h) = found t record { what = h .what; is = λ l. e l (drop at s) ∙ h .is l; tells = h .tells; on = h .on; inside = h .inside }
 scans-same {s = s} {at} e (unfit c h) = unfit c (λ l. e l (drop at s) ∙ h l)
 
@@ -198,7 +205,8 @@ module _ (s : List ℕ) (at : ℕ) (negative : Bool) (top : ℕ) (run : Text) (n
         inside = omega arith;
       }
 
-pub magnitude-not : {s : List ℕ} {at c : ℕ} {r : Scan} (negative : Bool) (top : ℕ) → Scans (digitsText top) valueTold s at r → r ≡ Scan.Not c → Scans (signedText top) (signedTold negative) s at r
+pub magnitude-not : {s : List ℕ} {at c : ℕ} {r : Scan} (negative : Bool) (top : ℕ) → Scans (digitsText top) valueTold s at r → r ≡ Scan.Not c
+    → Scans (signedText top) (signedTold negative) s at r
 unfolding signedText
 magnitude-not negative top h e = unfit-part h e (λ l q. rw (signedText, q))
 
@@ -228,7 +236,11 @@ module _ (s : List ℕ) (at : ℕ) where
   module _ (colon : eqb (byteAt s at) (byte ":") ≡ true) (g : Sign) (from : ℕ) (sg : SignAt s (at + 1) g from) where
     opened : (l : ℕ) → intText l (drop at s) ≡ (signedText (integerLimit g) l (drop from s) >>= λ q. kept (literal g (q .0)) (q .1))
     unfolding intText signedText
-    opened l = rw (intText, expect-yes l s at (byte ":") [] (lit< tt) colon, sg .is) (after-part (digits l (integerLimit g) (drop from s)) (expect l (bytes ";")) (literal g))
+    opened l = rw (
+      intText,
+      expect-yes l s at (byte ":") [] (lit< tt) colon,
+      sg .is,
+    ) (after-part (digits l (integerLimit g) (drop from s)) (expect l (bytes ";")) (literal g))
 
     pub int-is : (r : Scan) → Scans (signedText (integerLimit g)) (signedTold (isMinus g)) s from r → Scans intText literalTold s at r
     int-is r (found t f) =
@@ -242,12 +254,20 @@ module _ (s : List ℕ) (at : ℕ) where
     int-is r (unfit c f) = unfit c (λ l. opened l ∙ rw (f l))
 
   -- one that is found without a sign
-  pub int-unsigned : eqb (byteAt s at) (byte ":") ≡ true → (r : Scan) → Scans (signedText (integerLimit unsigned)) (signedTold false) s (at + 1) r → (x : Text) → r ≡ Scan.Is x → Scans intText literalTold s at r
+  pub int-unsigned : eqb (byteAt s at) (byte ":") ≡ true → (r : Scan) → Scans (signedText (integerLimit unsigned)) (signedTold false) s (at + 1) r
+      → (x : Text) → r ≡ Scan.Is x → Scans intText literalTold s at r
   int-unsigned colon r h x e =
-      int-is colon unsigned (at + 1) (record { is = digits-unsigned (drop (at + 1) s) (some-digits (integerLimit unsigned) (drop (at + 1) s) _ (found-of h e .is 0)); on = omega arith }) r h
+      int-is colon unsigned (at + 1)
+      (record {
+        is = digits-unsigned (drop (at + 1) s) (some-digits (integerLimit unsigned) (drop (at + 1) s) _ (found-of h e .is 0));
+        on = omega arith;
+      }) r h
 
-  pub int-front : eqb (byteAt s at) (byte ":") ≡ true → (f : Front) (h : FrontIs s (at + 1) f) (r : Scan) → Scans (signedText (f .top)) (signedTold (f .negative)) s (f .from) r → Scans intText literalTold s at r
-  int-front colon f h r e = int-is colon (h .sign) (f .from) (record { is = h .is; on = h .on }) r (subst (λ (n : Bool). Scans (signedText (integerLimit (h .sign))) (signedTold n) s (f .from) r) (h .negative) (subst (λ (t : ℕ). Scans (signedText t) (signedTold (f .negative)) s (f .from) r) (h .top) e))
+  pub int-front : eqb (byteAt s at) (byte ":") ≡ true → (f : Front) (h : FrontIs s (at + 1) f) (r : Scan)
+      → Scans (signedText (f .top)) (signedTold (f .negative)) s (f .from) r → Scans intText literalTold s at r
+  int-front colon f h r e = int-is colon (h .sign) (f .from) (record { is = h .is; on = h .on }) r
+      (subst (λ (n : Bool). Scans (signedText (integerLimit (h .sign))) (signedTold n) s (f .from) r) (h .negative)
+      (subst (λ (t : ℕ). Scans (signedText t) (signedTold (f .negative)) s (f .from) r) (h .top) e))
 
 -- ---- counts and ordinals named
 
@@ -269,7 +289,8 @@ count-not {s} {at} {c} h e = unfit-part h e (λ l q. rw (countText, number-not l
 module _ (s : List ℕ) (at : ℕ) (run : Text) (n : Found (digitsText numberLimit) valueTold s at run) where
   pub count-open : (eqb (byteAt s (run .next)) (byte ":") && eqb (byteAt s (run .next + 1)) (byte "{")) ≡ false → Scans countText countTold s at (Scan.Not 2)
   unfolding countText
-  count-open e = unfit 2 (λ l. rw (countText, number-is l (drop at s) (n .what) (drop (run .next) s) (n .is l), pair-no s (run .next) (byte ":") (byte "{") l [] (lit< tt) e))
+  count-open e = unfit 2
+      (λ l. rw (countText, number-is l (drop at s) (n .what) (drop (run .next) s) (n .is l), pair-no s (run .next) (byte ":") (byte "{") l [] (lit< tt) e))
 
   pub count-is : (eqb (byteAt s (run .next)) (byte ":") && eqb (byteAt s (run .next + 1)) (byte "{")) ≡ true
       → Scans countText countTold s at (Scan.Is (tell 0 0 (run .content) (run .next + 2)))
@@ -278,7 +299,11 @@ module _ (s : List ℕ) (at : ℕ) (run : Text) (n : Found (digitsText numberLim
       let k : run .next + 1 < length s = pair-there s (run .next) (byte ":") (byte "{") e (lit< tt) in
       found (tell 0 0 (run .content) (run .next + 2)) record {
         what = spelledSo (n .what);
-        is = λ l. rw (countText, number-is l (drop at s) (n .what) (drop (run .next) s) (n .is l), pair-yes s (run .next) (byte ":") (byte "{") e l [] (lit< tt) (lit< tt));
+        is = λ l. rw (
+          countText,
+          number-is l (drop at s) (n .what) (drop (run .next) s) (n .is l),
+          pair-yes s (run .next) (byte ":") (byte "{") e l [] (lit< tt) (lit< tt),
+        );
         tells = ap (λ (u : Text). tell 0 0 (u .content) (run .next + 2)) (n .tells);
         on = omega (arith, n .on);
         inside = omega arith;
@@ -297,7 +322,13 @@ module _ (s : List ℕ) (at : ℕ) where
     module _ (run : Text) (n : Found (digitsText numberLimit) valueTold s (at + 1) run) where
       pub named-open : eqb (byteAt s (run .next)) (byte ";") ≡ false → Scans namedText valueTold s at (Scan.Not 2)
       unfolding namedText
-      named-open e = unfit 2 (λ l. rw (namedText, expect-yes l s at (byte ":") [] (lit< tt) colon, number-is l (drop (at + 1) s) (n .what) (drop (run .next) s) (n .is l), expect-no l s (run .next) (byte ";") [] e))
+      named-open e = unfit 2
+          (λ l. rw (
+            namedText,
+            expect-yes l s at (byte ":") [] (lit< tt) colon,
+            number-is l (drop (at + 1) s) (n .what) (drop (run .next) s) (n .is l),
+            expect-no l s (run .next) (byte ";") [] e,
+          ))
 
       pub named-is : eqb (byteAt s (run .next)) (byte ";") ≡ true → Scans namedText valueTold s at (Scan.Is (tell (run .content) 0 0 (run .next + 1)))
       unfolding namedText
@@ -305,7 +336,12 @@ module _ (s : List ℕ) (at : ℕ) where
           let k : run .next < length s = byte-there s (run .next) (byte ";") (lit< tt) e in
           found (tell (run .content) 0 0 (run .next + 1)) record {
             what = spelledSo (n .what);
-            is = λ l. rw (namedText, expect-yes l s at (byte ":") [] (lit< tt) colon, number-is l (drop (at + 1) s) (n .what) (drop (run .next) s) (n .is l), expect-yes l s (run .next) (byte ";") [] (lit< tt) e);
+            is = λ l. rw (
+              namedText,
+              expect-yes l s at (byte ":") [] (lit< tt) colon,
+              number-is l (drop (at + 1) s) (n .what) (drop (run .next) s) (n .is l),
+              expect-yes l s (run .next) (byte ";") [] (lit< tt) e,
+            );
             tells = ap (λ (u : Text). tell (u .content) 0 0 (run .next + 1)) (n .tells);
             on = omega (arith, n .on);
             inside = omega arith;

@@ -48,12 +48,14 @@ run-until : (t y : List ℕ) → until (byte ";") (digitsOf t ++ y) ≡ digitsOf
 run-until [] y = refl
 run-until (b ∷ t) y = go (test (isDigit b)) (run-until t y)
   where
-    go : Test (isDigit b) → until (byte ";") (digitsOf t ++ y) ≡ digitsOf t ++ until (byte ";") y → until (byte ";") (digitsOf (b ∷ t) ++ y) ≡ digitsOf (b ∷ t) ++ until (byte ";") y
+    go : Test (isDigit b) → until (byte ";") (digitsOf t ++ y) ≡ digitsOf t ++ until (byte ";") y
+        → until (byte ";") (digitsOf (b ∷ t) ++ y) ≡ digitsOf (b ∷ t) ++ until (byte ";") y
     go (passed e) r = rw (e, digitsOf, until, not-stop b e) (ap {B = List ℕ} (λ x. b ∷ x) r)
     go (failed e) r = rw (e, digitsOf)
 
 run-sign : (t y : List ℕ) → 0 < length (digitsOf t) → signOf (digitsOf t ++ y) .1 ≡ digitsOf t ++ y
-run-sign t y h = ap (λ (p : Sign × List ℕ). p .1) (digits-unsigned (digitsOf t ++ y) (omega (arith, ap length (run-digits t y), length-append (digitsOf t) (digitsOf y))))
+run-sign t y h = ap (λ (p : Sign × List ℕ). p .1)
+    (digits-unsigned (digitsOf t ++ y) (omega (arith, ap length (run-digits t y), length-append (digitsOf t) (digitsOf y))))
 
 -- a decimal without a sign is a float
 any : (a b c d : Bool) → d ≡ true → (a || b || c || d) ≡ true
@@ -86,7 +88,12 @@ module _ (s : List ℕ) (from : ℕ) (run : Run) (r : RunAt s from 0 run) (some 
       let part : take (end - from) t ≡ p = ap (λ (k : ℕ). take k t) n ∙ ap (take (length p)) split ∙ take-append-seam p x in
       let h : end < length s = byte-there s end (byte ";") (lit< tt) stop in
       record {
-        semicolon = record { part = u ∙ sym part; stop = λ l. sym (byte-in s end h) ∙ eqb-true (byteAt s end) (byte ";") stop; inside = omega (arith, h); on = omega (arith, long) };
+        semicolon = record {
+          part = u ∙ sym part;
+          stop = λ l. sym (byte-in s end h) ∙ eqb-true (byteAt s end) (byte ";") stop;
+          inside = omega (arith, h);
+          on = omega (arith, long);
+        };
         float = ap isFloat part ∙ decimal-float t y some-digits d;
         inside = h;
       }
@@ -113,11 +120,19 @@ module _ (s : List ℕ) (from : ℕ) (run : Run) (r : RunAt s from 0 run) (some 
     plain-part e =
         let z : List ℕ = 59 ∷ drop (fraction .next + 1) s in
         let rest : afterDigits t ≡ 46 ∷ u = run-rest s from 0 run r ∙ drop-byte s (run .next) (byte ".") (lit< tt) point in
-        let behind : u ≡ digitsOf u ++ z = digits-split u ∙ ap (λ (x : List ℕ). digitsOf u ++ x) (run-rest s (run .next + 1) 0 fraction r₂ ∙ drop-byte s (fraction .next) (byte ";") (lit< tt) e) in
-        let split : t ≡ digitsOf t ++ (46 ∷ (digitsOf u ++ z)) = digits-split t ∙ ap (λ (x : List ℕ). digitsOf t ++ x) (rest ∙ ap {B = List ℕ} (λ x. 46 ∷ x) behind) in
+        let behind : u ≡ digitsOf u ++ z = digits-split u
+        ∙ ap (λ (x : List ℕ). digitsOf u ++ x) (run-rest s (run .next + 1) 0 fraction r₂ ∙ drop-byte s (fraction .next) (byte ";") (lit< tt) e) in
+        let split : t ≡ digitsOf t ++ (46 ∷ (digitsOf u ++ z)) = digits-split t
+        ∙ ap (λ (x : List ℕ). digitsOf t ++ x) (rest ∙ ap {B = List ℕ} (λ x. 46 ∷ x) behind) in
         end-of y z (fraction .next)
         (split ∙ ap (λ (x : List ℕ). digitsOf t ++ (46 ∷ (x ++ z))) (sym (append-nil (digitsOf u))) ∙ sym (append-assoc (digitsOf t) y z))
         (omega (arith, r .next, r₂ .next, length-append (digitsOf t) y, ap length (append-nil (digitsOf u))))
         e
         (ap (until (byte ";")) split ∙ run-until t (46 ∷ (digitsOf u ++ z)) ∙ ap (λ (x : List ℕ). digitsOf t ++ (46 ∷ x)) (run-until u z))
-        (rw (run-digits t y, run-after t y, run-digits u [], run-after u [], lt-ltb 0 (length (digitsOf t ++ []) + length (digitsOf u ++ [])) (omega (arith, some-digits, ap length (append-nil (digitsOf t))))))
+        (rw (
+          run-digits t y,
+          run-after t y,
+          run-digits u [],
+          run-after u [],
+          lt-ltb 0 (length (digitsOf t ++ []) + length (digitsOf u ++ [])) (omega (arith, some-digits, ap length (append-nil (digitsOf t)))),
+        ))

@@ -22,7 +22,8 @@ count-printed : (l : ℕ) (w : Spelling) (n : ℕ) (r : List ℕ) → n ≤ numb
 unfolding countText
 count-printed l w n r h = rw (number-printed l w n (byte ":") (byte "{" ∷ r) h refl)
 
-pub array-printed : (l : ℕ) (w : Spelling) (n : ℕ) (r : List ℕ) → n ≤ numberLimit → headText true l (byte ":" ∷ writeNumber w n (byte ":" ∷ byte "{" ∷ r)) ≡ ok ((array, (w, n)), r)
+pub array-printed : (l : ℕ) (w : Spelling) (n : ℕ) (r : List ℕ) → n ≤ numberLimit
+    → headText true l (byte ":" ∷ writeNumber w n (byte ":" ∷ byte "{" ∷ r)) ≡ ok ((array, (w, n)), r)
 unfolding headText
 array-printed l w n r h = rw (count-printed l w n r h)
 

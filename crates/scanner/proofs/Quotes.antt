@@ -66,9 +66,16 @@ module _ (s : List ℕ) (at close : ℕ) (small : close < 256) where
         quoted-short h = unfit 2 (λ l. opened l ∙ rw (entered l, length-drop offset s, lt-leb (run .content) (length s - offset) h))
 
         module _ (enough : run .content ≤ length s - offset) where
-          pub quoted-open : (eqb (byteAt s (offset + run .content)) (byte "\"") && eqb (byteAt s (offset + run .content + 1)) close) ≡ false → Answers (Scan.Not 2)
+          pub quoted-open : (eqb (byteAt s (offset + run .content)) (byte "\"") && eqb (byteAt s (offset + run .content + 1)) close) ≡ false
+              → Answers (Scan.Not 2)
           quoted-open e =
-              unfit 2 (λ l. opened l ∙ rw (entered l, length-drop offset s, le-leb (run .content) (length s - offset) enough, drop-drop (run .content) offset s, pair-no s (offset + run .content) (byte "\"") close l [] (lit< tt) e))
+              unfit 2 (λ l. opened l ∙ rw (
+                entered l,
+                length-drop offset s,
+                le-leb (run .content) (length s - offset) enough,
+                drop-drop (run .content) offset s,
+                pair-no s (offset + run .content) (byte "\"") close l [] (lit< tt) e,
+              ))
 
           long : length (take (run .content) (drop offset s)) ≡ run .content
           long = length-take-le (run .content) (drop offset s) (omega (arith, length-drop offset s))
@@ -95,7 +102,13 @@ module _ (s : List ℕ) (at close : ℕ) (small : close < 256) where
               found (tell w (run .content) 0 (offset + run .content + 2)) record {
                 what = record { spelling = record { zeros = n .what .0 }; text = take (run .content) (drop offset s) };
                 is = λ l.
-                    opened l ∙ rw (entered l, length-drop offset s, le-leb (run .content) (length s - offset) enough, drop-drop (run .content) offset s, pair-yes s (offset + run .content) (byte "\"") close e l [] (lit< tt) small);
+                    opened l ∙ rw (
+                      entered l,
+                      length-drop offset s,
+                      le-leb (run .content) (length s - offset) enough,
+                      drop-drop (run .content) offset s,
+                      pair-yes s (offset + run .content) (byte "\"") close e l [] (lit< tt) small,
+                    );
                 tells = rw long (ap (λ (x : ℕ). tell x (run .content) 0 (offset + run .content + 2)) (z ∙ begins));
                 on = omega (arith, n .on);
                 inside = omega arith;

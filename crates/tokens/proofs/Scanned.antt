@@ -45,14 +45,24 @@ module _ (s : List ℕ) (at : ℕ) where
       unfolding tokenBehind
       token-object i f = behind r (scans-map openingOf (λ l s. rw i) (λ x next. refl) f)
 
-      pub token-reference : (b ≡ tag Kind.variableReference) ⊎ (b ≡ tag Kind.objectReference) → Scans namedText valueTold s (at + 1) r → Scans readToken (tokenTold at) s at r
+      pub token-reference : (b ≡ tag Kind.variableReference) ⊎ (b ≡ tag Kind.objectReference) → Scans namedText valueTold s (at + 1) r
+          → Scans readToken (tokenTold at) s at r
       unfolding tokenBehind
       token-reference o f =
           behind r
-          (⊎-elim (λ i. scans-map (referenceOf variableRef) (λ l s. rw i) (λ x next. refl) f) (λ i. scans-map (referenceOf objectRef) (λ l s. rw i) (λ x next. refl) f) o)
+          (⊎-elim (λ i. scans-map (referenceOf variableRef) (λ l s. rw i) (λ x next. refl) f)
+          (λ i. scans-map (referenceOf objectRef) (λ l s. rw i) (λ x next. refl) f) o)
 
-      pub token-scalar : (b ≡ byte "}" → ⊥) → (b ≡ tag Kind.array → ⊥) → (b ≡ tag Kind.object → ⊥) → ((b ≡ tag Kind.variableReference) ⊎ (b ≡ tag Kind.objectReference) → ⊥)
+      pub token-scalar : (b ≡ byte "}" → ⊥) → (b ≡ tag Kind.array → ⊥) → (b ≡ tag Kind.object → ⊥)
+          → ((b ≡ tag Kind.variableReference) ⊎ (b ≡ tag Kind.objectReference) → ⊥)
           → Scans (scalarBehind b) (scalarTold (at + 1)) s (at + 1) r → Scans readToken (tokenTold at) s at r
       unfolding tokenBehind
       token-scalar c a o p f =
-          behind r (scans-map scalar (λ l s. rw (tokenBehind, ne-eqb b 125 c, ne-eqb b 97 a, ne-eqb b 79 o, ne-eqb b 114 (λ i. p (inr i)), ne-eqb b 82 (λ i. p (inl i)))) (λ x next. refl) f)
+          behind r (scans-map scalar (λ l s. rw (
+            tokenBehind,
+            ne-eqb b 125 c,
+            ne-eqb b 97 a,
+            ne-eqb b 79 o,
+            ne-eqb b 114 (λ i. p (inr i)),
+            ne-eqb b 82 (λ i. p (inl i)),
+          )) (λ x next. refl) f)

@@ -26,23 +26,35 @@ pub record Stands (s : List ℕ) (at : ℕ) (t : Token) (x : Text) : Type 0 wher
 
 -- what a scan finds stands there
 pub found-stands : (s : List ℕ) (at : ℕ) (x : Text) (f : Found readToken (tokenTold at) s at x) → Stands s at (f .what) x
-found-stands s at x f = let r = token-read 0 (drop at s) (f .what, drop (x .next) s) (f .is 0) in record { written = r .0; tells = f .tells; fits = r .1; inside = f .inside }
+found-stands s at x f = let r = token-read 0 (drop at s) (f .what, drop (x .next) s) (f .is 0) in record {
+  written = r .0;
+  tells = f .tells;
+  fits = r .1;
+  inside = f .inside;
+}
 
 -- what a scan finds where a token is known to stand is that token
 pub record Standing (s : List ℕ) (at : ℕ) (t : Token) (behind : List ℕ) (x : Text) : Type 0 where
   pub stands : Stands s at t x
   pub rest : drop (x .next) s ≡ behind
 
-pub standing : (s : List ℕ) (at : ℕ) (t : Token) (behind : List ℕ) (x : Text) → TokenFits t → drop at s ≡ writeToken t behind → Found readToken (tokenTold at) s at x → Standing s at t behind x
+pub standing : (s : List ℕ) (at : ℕ) (t : Token) (behind : List ℕ) (x : Text) → TokenFits t → drop at s ≡ writeToken t behind
+    → Found readToken (tokenTold at) s at x → Standing s at t behind x
 standing s at t behind x fit e f =
     let q : kept (f .what) (drop (x .next) s) ≡ kept t behind = sym (f .is 0) ∙ ap (readToken 0) e ∙ token-printed 0 t behind fit in
     let same : f .what ≡ t = ap (λ (p : Token × List ℕ). p .0) (ok-same q) in
     let rest : drop (x .next) s ≡ behind = ap (λ (p : Token × List ℕ). p .1) (ok-same q) in
     record {
-      stands = record { written = e ∙ ap (writeToken t) (sym rest); tells = f .tells ∙ ap (λ (u : Token). tokenTold at u (x .next)) same; fits = fit; inside = f .inside };
+      stands = record {
+        written = e ∙ ap (writeToken t) (sym rest);
+        tells = f .tells ∙ ap (λ (u : Token). tokenTold at u (x .next)) same;
+        fits = fit;
+        inside = f .inside;
+      };
       rest = rest;
     }
 
 -- and it is not unfit
-pub never-unfit : (s : List ℕ) (at : ℕ) (t : Token) (behind : List ℕ) (c : ℕ) → TokenFits t → drop at s ≡ writeToken t behind → ((l : ℕ) → readToken l (drop at s) ≡ refused c l) → ⊥
+pub never-unfit : (s : List ℕ) (at : ℕ) (t : Token) (behind : List ℕ) (c : ℕ) → TokenFits t → drop at s ≡ writeToken t behind
+    → ((l : ℕ) → readToken l (drop at s) ≡ refused c l) → ⊥
 never-unfit s at t behind c fit e f = not-both (sym (f 0) ∙ ap (readToken 0) e ∙ token-printed 0 t behind fit)

@@ -24,7 +24,8 @@ step n behind s b = elim b [
 ]
 
 -- a token is left
-pub upto-more : (n behind : ℕ) (s : List ℕ) (t : Token) (r : List ℕ) → behind < length s → readToken 0 s ≡ ok (t, r) → tokensUpTo (suc n) behind s ≡ t ∷ tokensUpTo n behind r
+pub upto-more : (n behind : ℕ) (s : List ℕ) (t : Token) (r : List ℕ) → behind < length s → readToken 0 s ≡ ok (t, r)
+    → tokensUpTo (suc n) behind s ≡ t ∷ tokensUpTo n behind r
 upto-more n behind s t r h e = ap (step n behind s) (lt-ltb behind (length s) h) ∙ ap (nextOf (tokensUpTo n behind)) e
 
 pub upto-end : (n behind : ℕ) (s : List ℕ) → length s ≤ behind → tokensUpTo n behind s ≡ []
@@ -42,7 +43,8 @@ upto-unfit (suc n) behind s c l e = by (order behind (length s))
 
 -- ---- more steps than bytes change nothing
 
-next-same : (f g : List ℕ → List Token) (s : List ℕ) (a : Answer (Token × List ℕ)) → readToken 0 s ≡ a → ((r : List ℕ) → length r < length s → f r ≡ g r) → nextOf f a ≡ nextOf g a
+next-same : (f g : List ℕ → List Token) (s : List ℕ) (a : Answer (Token × List ℕ)) → readToken 0 s ≡ a → ((r : List ℕ) → length r < length s → f r ≡ g r)
+    → nextOf f a ≡ nextOf g a
 next-same f g s (ok (t, r)) e h =
     let g₁ = token-read 0 s (t, r) e in
     ap {B = List Token} (λ ts. t ∷ ts) (h r (omega (arith, ap length (g₁ .0), token-longer t r)))
@@ -51,14 +53,16 @@ next-same f g s (refused c at) e h = refl
 steps-same : (m n behind : ℕ) (s : List ℕ) → length s ≤ m → length s ≤ n → tokensUpTo m behind s ≡ tokensUpTo n behind s
 steps-same zero n behind s h k = sym (upto-end n behind s (omega arith))
 steps-same (suc m) zero behind s h k = upto-end (suc m) behind s (omega arith)
-steps-same (suc m) (suc n) behind s h k = by (ltb behind (length s)) (next-same (tokensUpTo m behind) (tokensUpTo n behind) s (readToken 0 s) refl (λ r i. steps-same m n behind r (omega arith) (omega arith)))
+steps-same (suc m) (suc n) behind s h k = by (ltb behind (length s))
+    (next-same (tokensUpTo m behind) (tokensUpTo n behind) s (readToken 0 s) refl (λ r i. steps-same m n behind r (omega arith) (omega arith)))
   where
     by : (b : Bool) → step m behind s true ≡ step n behind s true → step m behind s b ≡ step n behind s b
     by true e = e
     by false e = refl
 
 module _ (s : List ℕ) (at to : ℕ) where
-  pub between-more : (t : Token) (next : ℕ) → at < to → at < length s → readToken 0 (drop at s) ≡ ok (t, drop next s) → tokensBetween s at to ≡ t ∷ tokensBetween s next to
+  pub between-more : (t : Token) (next : ℕ) → at < to → at < length s → readToken 0 (drop at s) ≡ ok (t, drop next s)
+      → tokensBetween s at to ≡ t ∷ tokensBetween s next to
   unfolding tokensBetween
   between-more t next h i e =
       let b : ℕ = length (drop to s) in
@@ -83,14 +87,16 @@ upto-all : (n : ℕ) (ts : List Token) (r : List ℕ) → AllFit ts → length (
 upto-all n [] r f h = upto-end n (length r) r (omega arith)
 upto-all zero (t ∷ ts) r f h = absurd (omega (arith, h, token-longer t (writeTokens ts r)))
 upto-all (suc n) (t ∷ ts) r f h =
-    upto-more n (length r) (writeTokens (t ∷ ts) r) t (writeTokens ts r) (omega (arith, token-longer t (writeTokens ts r), tokens-longer ts r)) (token-printed 0 t (writeTokens ts r) (f .0))
+    upto-more n (length r) (writeTokens (t ∷ ts) r) t (writeTokens ts r) (omega (arith, token-longer t (writeTokens ts r), tokens-longer ts r))
+    (token-printed 0 t (writeTokens ts r) (f .0))
     ∙ ap {B = List Token} (λ us. t ∷ us) (upto-all n ts r (f .1) (omega (arith, h, token-longer t (writeTokens ts r))))
 
 -- TOKENS THAT FILL THE BYTES ARE THOSE BETWEEN
 pub between-stretch : {s : List ℕ} {from to : ℕ} (g : Stretch s from to) → tokensBetween s from to ≡ g .tokens
 unfolding tokensBetween
 between-stretch {s} {from} {to} g =
-    ap (tokensUpTo (length s) (length (drop to s))) (g .text) ∙ upto-all (length s) (g .tokens) (drop to s) (g .fit) (omega (arith, sym (ap length (g .text)), length-drop from s))
+    ap (tokensUpTo (length s) (length (drop to s))) (g .text)
+    ∙ upto-all (length s) (g .tokens) (drop to s) (g .fit) (omega (arith, sym (ap length (g .text)), length-drop from s))
 
 -- ---- any bytes
 
@@ -99,7 +105,8 @@ pub record Prefix (s : List ℕ) (ts : List Token) : Type 0 where
   pub rest : List ℕ
   pub text : s ≡ writeTokens ts rest
 
-next-prefix : (more : List ℕ → List Token) → ((s : List ℕ) → Prefix s (more s)) → (s : List ℕ) (a : Answer (Token × List ℕ)) → readToken 0 s ≡ a → Prefix s (nextOf more a)
+next-prefix : (more : List ℕ → List Token) → ((s : List ℕ) → Prefix s (more s)) → (s : List ℕ) (a : Answer (Token × List ℕ)) → readToken 0 s ≡ a
+    → Prefix s (nextOf more a)
 next-prefix more m s (ok (t, r)) e =
     let g = token-read 0 s (t, r) e in
     let p = m r in

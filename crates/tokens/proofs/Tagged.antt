@@ -24,15 +24,71 @@ pub record Tagged (t : Token) (rest : List ℕ) : Type 0 where
   pub referred : Refers t → ReferenceTag byte
 
 scalar-tagged : (x : Scalar) (rest : List ℕ) → Tagged (scalar x) rest
-scalar-tagged null rest = record { byte = 78; behind = _; is = refl; opens = refl; closes = refl; refers = λ o. ⊎-elim (λ i. omega (arith, i)) (λ i. omega (arith, i)) o; referred = λ e. absurd e }
-scalar-tagged (bool b) rest = record { byte = 98; behind = _; is = refl; opens = refl; closes = refl; refers = λ o. ⊎-elim (λ i. omega (arith, i)) (λ i. omega (arith, i)) o; referred = λ e. absurd e }
-scalar-tagged (int x) rest = record { byte = 105; behind = _; is = refl; opens = refl; closes = refl; refers = λ o. ⊎-elim (λ i. omega (arith, i)) (λ i. omega (arith, i)) o; referred = λ e. absurd e }
-scalar-tagged (float f) rest = record { byte = 100; behind = _; is = refl; opens = refl; closes = refl; refers = λ o. ⊎-elim (λ i. omega (arith, i)) (λ i. omega (arith, i)) o; referred = λ e. absurd e }
-scalar-tagged (string q) rest = record { byte = 115; behind = _; is = refl; opens = refl; closes = refl; refers = λ o. ⊎-elim (λ i. omega (arith, i)) (λ i. omega (arith, i)) o; referred = λ e. absurd e }
+scalar-tagged null rest = record {
+  byte = 78;
+  behind = _;
+  is = refl;
+  opens = refl;
+  closes = refl;
+  refers = λ o. ⊎-elim (λ i. omega (arith, i)) (λ i. omega (arith, i)) o;
+  referred = λ e. absurd e;
+}
+scalar-tagged (bool b) rest = record {
+  byte = 98;
+  behind = _;
+  is = refl;
+  opens = refl;
+  closes = refl;
+  refers = λ o. ⊎-elim (λ i. omega (arith, i)) (λ i. omega (arith, i)) o;
+  referred = λ e. absurd e;
+}
+scalar-tagged (int x) rest = record {
+  byte = 105;
+  behind = _;
+  is = refl;
+  opens = refl;
+  closes = refl;
+  refers = λ o. ⊎-elim (λ i. omega (arith, i)) (λ i. omega (arith, i)) o;
+  referred = λ e. absurd e;
+}
+scalar-tagged (float f) rest = record {
+  byte = 100;
+  behind = _;
+  is = refl;
+  opens = refl;
+  closes = refl;
+  refers = λ o. ⊎-elim (λ i. omega (arith, i)) (λ i. omega (arith, i)) o;
+  referred = λ e. absurd e;
+}
+scalar-tagged (string q) rest = record {
+  byte = 115;
+  behind = _;
+  is = refl;
+  opens = refl;
+  closes = refl;
+  refers = λ o. ⊎-elim (λ i. omega (arith, i)) (λ i. omega (arith, i)) o;
+  referred = λ e. absurd e;
+}
 
 opening-tagged : (c : Container) (w : Spelling) (n : ℕ) (rest : List ℕ) → Tagged (opening (record { container = c; spelling = w }) n) rest
-opening-tagged array w n rest = record { byte = 97; behind = _; is = refl; opens = refl; closes = refl; refers = λ o. ⊎-elim (λ i. omega (arith, i)) (λ i. omega (arith, i)) o; referred = λ e. absurd e }
-opening-tagged (object q) w n rest = record { byte = 79; behind = _; is = refl; opens = refl; closes = refl; refers = λ o. ⊎-elim (λ i. omega (arith, i)) (λ i. omega (arith, i)) o; referred = λ e. absurd e }
+opening-tagged array w n rest = record {
+  byte = 97;
+  behind = _;
+  is = refl;
+  opens = refl;
+  closes = refl;
+  refers = λ o. ⊎-elim (λ i. omega (arith, i)) (λ i. omega (arith, i)) o;
+  referred = λ e. absurd e;
+}
+opening-tagged (object q) w n rest = record {
+  byte = 79;
+  behind = _;
+  is = refl;
+  opens = refl;
+  closes = refl;
+  refers = λ o. ⊎-elim (λ i. omega (arith, i)) (λ i. omega (arith, i)) o;
+  referred = λ e. absurd e;
+}
 
 reference-tagged : (d : RefKind) (w : Spelling) (n : ℕ) (rest : List ℕ) → Tagged (reference (record { kind = d; spelling = w; named = n })) rest
 reference-tagged objectRef w n rest = record { byte = 114; behind = _; is = refl; opens = refl; closes = refl; refers = λ o. tt; referred = λ e. inr refl }
@@ -42,4 +98,12 @@ pub tagged : (t : Token) (rest : List ℕ) → Tagged t rest
 tagged (scalar x) rest = scalar-tagged x rest
 tagged (reference r) rest = reference-tagged (r .kind) (r .spelling) (r .named) rest
 tagged (opening h n) rest = opening-tagged (h .container) (h .spelling) n rest
-tagged closing rest = record { byte = 125; behind = _; is = refl; opens = refl; closes = refl; refers = λ o. ⊎-elim (λ i. omega (arith, i)) (λ i. omega (arith, i)) o; referred = λ e. absurd e }
+tagged closing rest = record {
+  byte = 125;
+  behind = _;
+  is = refl;
+  opens = refl;
+  closes = refl;
+  refers = λ o. ⊎-elim (λ i. omega (arith, i)) (λ i. omega (arith, i)) o;
+  referred = λ e. absurd e;
+}

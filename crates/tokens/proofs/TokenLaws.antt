@@ -7,7 +7,8 @@ use lib.ListN.{length, length-append}
 use Rattle.format.specs.Bytes.{byte}
 use Rattle.format.specs.Kind.{tag}
 use Rattle.format.specs.Tree.{leaf, ref, branch, none, pair, count}
-use Rattle.format.specs.Syntax.{intKey, stringKey, null, bool, int, float, string, array, object, Key, Scalar, Container, Spelling, RefKind, objectRef, variableRef, refKind, Value, Values, writeNumber, writeKey, writeContainer, write, writePairs}
+use Rattle.format.specs.Syntax.{intKey, stringKey, null, bool, int, float, string, array, object, Key, Scalar, Container, Spelling, RefKind, objectRef}
+use Rattle.format.specs.Syntax.{variableRef, refKind, Value, Values, writeNumber, writeKey, writeContainer, write, writePairs}
 use Rattle.format.specs.Limits.{numberLimit}
 use Rattle.format.specs.Fits.{KeyFits, ScalarFits, Sound, SoundIn, Limited, LimitedIn}
 use Rattle.format.specs.Answer.{ok}
@@ -16,7 +17,8 @@ use Rattle.format.proofs.Fronts.{number-front, scalar-front, container-front}
 use Rattle.format.proofs.NormalForm.{canonicalPairs, count-canonical}
 use Rattle.scanner.specs.Scans.{scalarBehind}
 use Rattle.scanner.proofs.Printed.{named-printed, array-printed, object-printed, scalarKind, scalar-tagged, scalar-printed, behindTag}
-use Rattle.tokens.specs.Tokens.{Token, scalar, reference, opening, closing, tokenBehind, readToken, keyScalar, tokens, tokensIn, writeToken, writeTokens, canonicalToken, TokenFits, AllFit}
+use Rattle.tokens.specs.Tokens.{Token, scalar, reference, opening, closing, tokenBehind, readToken, keyScalar, tokens, tokensIn, writeToken, writeTokens}
+use Rattle.tokens.specs.Tokens.{canonicalToken, TokenFits, AllFit}
 
 -- ---- a plan is its tokens
 
@@ -39,7 +41,8 @@ mutual
   tokensIn-write : (ps : Values) (r : List ℕ) → writeTokens (tokensIn ps) r ≡ writePairs ps r
   tokensIn-write none r = refl
   tokensIn-write (pair k v ps) r =
-      ap (writeToken (scalar (keyScalar k))) (tokens-append (tokens v) (tokensIn ps) r ∙ tokens-write v (writeTokens (tokensIn ps) r) ∙ ap (write v) (tokensIn-write ps r))
+      ap (writeToken (scalar (keyScalar k))) (tokens-append (tokens v) (tokensIn ps) r ∙ tokens-write v (writeTokens (tokensIn ps) r)
+      ∙ ap (write v) (tokensIn-write ps r))
       ∙ key-written k (write v (writePairs ps r))
 
 -- ---- the tokens of canonical text are the canonical tokens
@@ -61,7 +64,8 @@ mutual
   tokensIn-canonical : (ps : Values) → tokensIn (canonicalPairs ps) ≡ map canonicalToken (tokensIn ps)
   tokensIn-canonical none = refl
   tokensIn-canonical (pair k v ps) =
-      ap₂ {C = List Token} _∷_ (key-canonical k) (ap₂ _++_ (tokens-canonical v) (tokensIn-canonical ps) ∙ sym (map-append canonicalToken (tokens v) (tokensIn ps)))
+      ap₂ {C = List Token} _∷_ (key-canonical k) (ap₂ _++_ (tokens-canonical v) (tokensIn-canonical ps)
+      ∙ sym (map-append canonicalToken (tokens v) (tokensIn ps)))
 
 -- ---- the tokens of a valid plan fit
 
@@ -90,7 +94,8 @@ pub token-front : (t : Token) (r s : List ℕ) → writeToken t (r ++ s) ≡ wri
 token-front (scalar x) r s = scalar-front x r s
 token-front (reference n) r s = ap {B = List ℕ} (λ y. tag (refKind (n .kind)) ∷ byte ":" ∷ y) (number-front (n .spelling) (n .named) (byte ";" ∷ r) s)
 token-front (opening h n) r s =
-    ap (writeContainer (h .container)) (number-front (h .spelling) n (byte ":" ∷ byte "{" ∷ r) s) ∙ container-front (h .container) (writeNumber (h .spelling) n (byte ":" ∷ byte "{" ∷ r)) s
+    ap (writeContainer (h .container)) (number-front (h .spelling) n (byte ":" ∷ byte "{" ∷ r) s)
+    ∙ container-front (h .container) (writeNumber (h .spelling) n (byte ":" ∷ byte "{" ∷ r)) s
 token-front closing r s = refl
 
 pub token-some : (t : Token) (r : List ℕ) → 0 < length (writeToken t r)

@@ -8,7 +8,8 @@ use lib.Dec.{eqb}
 use borrow.Author.Tests.{eqb-true}
 use Rattle.format.specs.Bytes.{byte, bytes}
 use Rattle.format.specs.Kind.{Kind, scalarKinds, tag}
-use Rattle.format.specs.Syntax.{null, bool, int, float, string, array, object, Scalar, Spelling, Container, RefKind, objectRef, variableRef, refKind, writeScalar, writeNumber, writeContainer}
+use Rattle.format.specs.Syntax.{null, bool, int, float, string, array, object, Scalar, Spelling, Container, RefKind, objectRef, variableRef, refKind}
+use Rattle.format.specs.Syntax.{writeScalar, writeNumber, writeContainer}
 use Rattle.format.specs.Limits.{numberLimit}
 use Rattle.format.specs.Fits.{ScalarFits, ContainerFits}
 use Rattle.format.specs.Answer.{Answer, ok, _>>=_}
@@ -63,7 +64,8 @@ scalar-read b l s q e =
 abbrev GotToken : List ℕ → Token × List ℕ → Type 0
 GotToken s q = (s ≡ writeToken (q .0) (q .1)) × TokenFits (q .0)
 
-count-read : (l : ℕ) (s : List ℕ) (q : (Spelling × ℕ) × List ℕ) → countText l s ≡ ok q → (s ≡ writeNumber (q .0 .0) (q .0 .1) (58 ∷ 123 ∷ q .1)) × (q .0 .1 ≤ numberLimit)
+count-read : (l : ℕ) (s : List ℕ) (q : (Spelling × ℕ) × List ℕ) → countText l s ≡ ok q → (s ≡ writeNumber (q .0 .0) (q .0 .1) (58 ∷ 123 ∷ q .1))
+    × (q .0 .1 ≤ numberLimit)
 unfolding countText
 count-read l s q e =
     let a = bind-ok (number l s) _ q e in
@@ -72,7 +74,8 @@ count-read l s q e =
     subst (λ (p : (Spelling × ℕ) × List ℕ). (s ≡ writeNumber (p .0 .0) (p .0 .1) (58 ∷ 123 ∷ p .1)) × (p .0 .1 ≤ numberLimit)) (ok-same (b .2))
     (n .text ∙ ap (writeNumber (a .0 .0 .0) (a .0 .0 .1)) (expect-ok l (bytes ":{") (a .0 .1) (b .0) (b .1)), n .fits)
 
-named-read : (k : RefKind) (l : ℕ) (s : List ℕ) (q : (Spelling × ℕ) × List ℕ) → namedText l s ≡ ok q → GotToken (tag (refKind k) ∷ s) (referenceOf k (q .0), q .1)
+named-read : (k : RefKind) (l : ℕ) (s : List ℕ) (q : (Spelling × ℕ) × List ℕ) → namedText l s ≡ ok q
+    → GotToken (tag (refKind k) ∷ s) (referenceOf k (q .0), q .1)
 unfolding namedText
 named-read k l s q e =
     let a = bind-ok (expect l (bytes ":") s) _ q e in
@@ -81,11 +84,13 @@ named-read k l s q e =
     let n = number-ok l (a .0) (b .0) (b .1) in
     subst (λ (p : (Spelling × ℕ) × List ℕ). GotToken (tag (refKind k) ∷ s) (referenceOf k (p .0), p .1)) (ok-same (c .2)) (
       ap {B = List ℕ} (λ y. tag (refKind k) ∷ y)
-          (expect-ok l (bytes ":") s (a .0) (a .1) ∙ ap {B = List ℕ} (λ y. 58 ∷ y) (n .text ∙ ap (writeNumber (b .0 .0 .0) (b .0 .0 .1)) (expect-ok l (bytes ";") (b .0 .1) (c .0) (c .1)))),
+          (expect-ok l (bytes ":") s (a .0) (a .1)
+          ∙ ap {B = List ℕ} (λ y. 58 ∷ y) (n .text ∙ ap (writeNumber (b .0 .0 .0) (b .0 .0 .1)) (expect-ok l (bytes ";") (b .0 .1) (c .0) (c .1)))),
       n .fits,
     )
 
-array-read : (l : ℕ) (s : List ℕ) (q : (Container × (Spelling × ℕ)) × List ℕ) → headText true l s ≡ ok q → GotToken (tag Kind.array ∷ s) (openingOf (q .0), q .1)
+array-read : (l : ℕ) (s : List ℕ) (q : (Container × (Spelling × ℕ)) × List ℕ) → headText true l s ≡ ok q
+    → GotToken (tag Kind.array ∷ s) (openingOf (q .0), q .1)
 unfolding headText
 array-read l s q e =
     let a = bind-ok (expect l (bytes ":") s) _ q e in
@@ -96,7 +101,8 @@ array-read l s q e =
       (tt, n .1),
     )
 
-object-read : (l : ℕ) (s : List ℕ) (q : (Container × (Spelling × ℕ)) × List ℕ) → headText false l s ≡ ok q → GotToken (tag Kind.object ∷ s) (openingOf (q .0), q .1)
+object-read : (l : ℕ) (s : List ℕ) (q : (Container × (Spelling × ℕ)) × List ℕ) → headText false l s ≡ ok q
+    → GotToken (tag Kind.object ∷ s) (openingOf (q .0), q .1)
 unfolding headText
 object-read l s q e =
     let a = bind-ok (quotedText l (bytes "\":") s) _ q e in
@@ -142,7 +148,8 @@ module _ (l b : ℕ) (s : List ℕ) (q : Token × List ℕ) where
     ]
   ]
 
-  by-tests : (c₁ c₂ c₃ c₄ c₅ : Bool) → eqb b 125 ≡ c₁ → eqb b 97 ≡ c₂ → eqb b 79 ≡ c₃ → eqb b 114 ≡ c₄ → eqb b 82 ≡ c₅ → chosen c₁ c₂ c₃ c₄ c₅ ≡ ok q → GotToken (b ∷ s) q
+  by-tests : (c₁ c₂ c₃ c₄ c₅ : Bool) → eqb b 125 ≡ c₁ → eqb b 97 ≡ c₂ → eqb b 79 ≡ c₃ → eqb b 114 ≡ c₄ → eqb b 82 ≡ c₅ → chosen c₁ c₂ c₃ c₄ c₅ ≡ ok q
+      → GotToken (b ∷ s) q
   by-tests true c₂ c₃ c₄ c₅ f₁ f₂ f₃ f₄ f₅ e = subst (GotToken (b ∷ s)) (ok-same e) (ap {B = List ℕ} (λ y. y ∷ s) (eqb-true b 125 f₁), tt)
   by-tests false true c₃ c₄ c₅ f₁ f₂ f₃ f₄ f₅ e = as-array (eqb-true b 97 f₂) e
   by-tests false false true c₄ c₅ f₁ f₂ f₃ f₄ f₅ e = as-object (eqb-true b 79 f₃) e

@@ -24,7 +24,8 @@ module _ (c : tie.After-gap) where
   abbrev target-told : tie.After-target
   target-told = c .before .before .before .before
 
-  gap : BeforeIs (start target-told .args .table .now) (start target-told .args .array-node) (target-told .target .given .0 .0) (target-told .target .given .0 .1 .0)
+  gap : BeforeIs (start target-told .args .table .now) (start target-told .args .array-node) (target-told .target .given .0 .0)
+      (target-told .target .given .0 .1 .0)
       (start target-told .args .pair-index) (c .gap .given .0 .0) (c .gap .given .0 .1 .0)
   gap = subst (GapIs _ _ _ _ _) (c .gap .given .1) (c .before .before .gap-at .ensures)
 

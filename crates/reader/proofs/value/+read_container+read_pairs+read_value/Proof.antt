@@ -153,7 +153,8 @@ container-returns-3 t c =
     let table = start .args .table .now in
     let is = found-of (headed .head .ensures) (found .scan .given .1) in
     let pairs = subst (MeetsPairs _ _ _ _ _ _) (read .step .given .1) (called .read-pairs .ensures .0) in (
-      containers.brace-missing _ _ _ _ (start .pre .1 .1 .3) _ is table _ _ table (start .pre .1 .0) (start .pre .1 .1 .1) _ _ (opened .open-node .ensures) pairs
+      containers.brace-missing _ _ _ _ (start .pre .1 .1 .3) _ is table _ _ table (start .pre .1 .0) (start .pre .1 .1 .1) _ _
+          (opened .open-node .ensures) pairs
           (sym (compared .byte-is .ensures) ∙ not-true _ (c .if1 .taken)),
       called .read-pairs .ensures .1,
     )

@@ -10,7 +10,8 @@ use Rattle.tonschnecke.proofs.reading.ton_read.Statement.{statement}
 use Rattle.tonschnecke.proofs.reading.ton_read.Tie as tie
 
 -- the reader's promise, of the struct that its answer becomes
-passed-on : {source before after : List ℕ} {a : Reading} → reader.Reads source before after a → TonReads source before after (readingOf (reader.readingAnswer a))
+passed-on : {source before after : List ℕ} {a : Reading} → reader.Reads source before after a
+    → TonReads source before after (readingOf (reader.readingAnswer a))
 passed-on reads = record { answer = ap readingOf (reads .answer); table = reads .table }
 
 read-requires : tie.Need-read-requires
