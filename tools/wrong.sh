@@ -1,12 +1,12 @@
 #!/usr/bin/env bash
 # Tries the wrong programs and definitions of crates/*/wrong, each over the incremental check of its crate, in a copy of the
-# tree: build/wrong. Before a crate's edits the unedited crate must pass. An edit is written as one of must-fail/ is.
+# tree: target/wrong. Before a crate's edits the unedited crate must pass. An edit is written as one of must-fail/ is.
 # A refusal here is no verdict: the incremental check trusts what it kept. The gate's verdict is that of must-fail/.
 # Use: tools/wrong.sh [CRATE...]
 set -euo pipefail
 cd "$(dirname "$0")/.."
 
-copy=build/wrong
+copy=target/wrong
 log=$copy/last.log
 tried=0
 failed=0
@@ -58,11 +58,11 @@ try() { # CRATE EDIT
     restore "$1"
 }
 
-mkdir -p "$copy"
-cp crates.txt "$copy/"
+mkdir -p "$copy/target"
 rm -rf "$copy/crates"
-cp -a crates "$copy/crates"
-[ -d "$copy/target" ] || [ ! -d target ] || cp -a target "$copy/target"
+cp -a crates crates.txt "$copy"
+# what the tree has proved is not proved again
+for proved in target/rlib target/stamp; do [ ! -d "$proved" ] || cp -a "$proved" "$copy/target"; done
 [ $# -gt 0 ] || set -- $(cd crates && ls -d */wrong | cut -d/ -f1)
 for crate; do
     check "$crate" || { tail -n 5 "$log"; echo "$crate: the unedited crate is not proved"; exit 1; }
