@@ -2,10 +2,15 @@
 # Tries the wrong programs and definitions of crates/*/wrong, each over the incremental check of its crate, in a copy of the
 # tree: target/wrong. Before a crate's edits the unedited crate must pass. An edit is written as one of must-fail/ is.
 # A refusal here is no verdict: the incremental check trusts what it kept. The gate's verdict is that of must-fail/.
-# Use: tools/wrong.sh [CRATE...]
+# Use: tools/wrong.sh [--fit] [CRATE...]; with --fit it only sees whether each edit can be applied still, and asks no prover.
 set -euo pipefail
 cd "$(dirname "$0")/.."
 
+fit=no
+if [ "${1-}" = --fit ]; then
+    fit=yes
+    shift
+fi
 copy=target/wrong
 log=$copy/last.log
 tried=0
@@ -44,6 +49,9 @@ try() { # CRATE EDIT
     tried=$((tried + 1))
     if ! apply "$1" "$2"; then
         echo "$name: BAD EDIT: an 'old:' text does not stand exactly once in its file"
+    elif [ $fit = yes ]; then
+        restore "$1"
+        return
     elif check "$1"; then
         echo "$name: NOT REFUSED"
     elif ! grep -q '^logic=not-proved' "$log"; then
@@ -65,8 +73,12 @@ cp -a crates crates.txt "$copy"
 for proved in target/rlib target/stamp; do [ ! -d "$proved" ] || cp -a "$proved" "$copy/target"; done
 [ $# -gt 0 ] || set -- $(cd crates && ls -d */wrong | cut -d/ -f1)
 for crate; do
-    check "$crate" || { tail -n 5 "$log"; echo "$crate: the unedited crate is not proved"; exit 1; }
+    [ $fit = yes ] || check "$crate" || { tail -n 5 "$log"; echo "$crate: the unedited crate is not proved"; exit 1; }
     for edit in crates/"$crate"/wrong/*.edit; do try "$crate" "$edit"; done
 done
-echo "$tried wrong programs tried, $failed not refused; a refusal here is no verdict"
+if [ $fit = yes ]; then
+    echo "wrong: $tried edits, of which $failed cannot be applied"
+else
+    echo "$tried wrong programs tried, $failed not refused; a refusal here is no verdict"
+fi
 [ "$failed" -eq 0 ]
