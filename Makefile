@@ -79,7 +79,7 @@ bench: needed archive
 # verdict, is printed last.
 test: needed
 	rt fmt --check
-	@echo 'Proving every crate from nothing and trying every edit: some twelve minutes on two cores. build/ci.log has the details.'
+	@echo 'Proving every crate from nothing and trying every edit: twelve to fifteen minutes on two cores. build/ci.log has the details.'
 	@RT_JOBS=$(JOBS) tools/rt.sh build/ci.log ci || { tail -n 1 build/ci.log; exit 1; }
 	@rm -f $(ARCHIVE)
 	$(MAKE) --no-print-directory compare
