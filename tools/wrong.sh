@@ -70,7 +70,9 @@ mkdir -p "$copy/target"
 rm -rf "$copy/crates"
 cp -a crates crates.txt "$copy"
 # what the tree has proved is not proved again
-for proved in target/rlib target/stamp; do [ ! -d "$proved" ] || cp -a "$proved" "$copy/target"; done
+for proved in target/rlib target/stamp; do
+    [ $fit = yes ] || [ ! -d "$proved" ] || cp -a "$proved" "$copy/target"
+done
 [ $# -gt 0 ] || set -- $(cd crates && ls -d */wrong | cut -d/ -f1)
 for crate; do
     [ $fit = yes ] || check "$crate" || { tail -n 5 "$log"; echo "$crate: the unedited crate is not proved"; exit 1; }
