@@ -18,7 +18,7 @@ pub struct KeyWords {
 }
 
 // The text of this length at an offset; none where it does not stand in the source.
-pub fn text_of(source: &[u8], offset: u64, size: u64) -> &[u8]
+fn text_of(source: &[u8], offset: u64, size: u64) -> &[u8]
     ensures { λ r. ⌜ now r ≡ textOf (now (source .entry)) offset size ⌝ }
 {
     let from = offset as usize;
