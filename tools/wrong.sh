@@ -70,8 +70,11 @@ mkdir -p "$copy/target"
 rm -rf "$copy/crates"
 cp -a crates crates.txt "$copy"
 # what the tree has proved is not proved again
-for proved in target/rlib target/stamp; do
-    [ $fit = yes ] || [ ! -d "$proved" ] || cp -a "$proved" "$copy/target"
+for proved in rlib stamp; do
+    if [ $fit = no ] && [ -d "target/$proved" ]; then
+        rm -rf "$copy/target/$proved"
+        cp -a "target/$proved" "$copy/target"
+    fi
 done
 [ $# -gt 0 ] || set -- $(cd crates && ls -d */wrong | cut -d/ -f1)
 for crate; do
