@@ -11,7 +11,7 @@ pub struct TonReading {
     pub ordinals: u64,
 }
 
-// TonReads a plan into the table; a refusal makes every word of it zero.
+// Reads a plan into the table; a refusal makes every word of it zero.
 #[no_mangle]
 pub extern "C" fn ton_read(source: &[u8], table: &mut [u64]) -> TonReading
     ensures { λ r. ⌜ TonReads (now (source .entry)) (now (table .entry)) (now (table .exit)) r ⌝ }

@@ -33,7 +33,7 @@ fn as_struct(writing: Writing) -> TonWriting
     }
 }
 
-// TonWrites the canonical text of a plan, and leaves the table that reading it leaves. A refusal writes nothing, and makes every word of the table zero.
+// Writes the canonical text of a plan, and leaves the table that reading it leaves. A refusal writes nothing, and makes every word of the table zero.
 #[no_mangle]
 pub extern "C" fn ton_canonicalize(source: &[u8], table: &mut [u64], out: &mut [u8]) -> TonWriting
     ensures { λ r. ⌜ TonWrites (canonicalBytes (capacityOf (now (table .entry))) (length (now (out .entry))) (now (source .entry)))
