@@ -3,6 +3,7 @@ use crate::Scan;
 use crate::Text;
 use bytes_at::byte_is;
 use bytes_at::bytes_are;
+use format::codes::TEXT_UNFIT;
 ghost use Rattle.format.specs.Read.{boolText};
 ghost use Rattle.scanner.specs.Scans.{Answers, nullText, nothingTold, boolTold};
 
@@ -11,7 +12,7 @@ pub(crate) fn null(source: &[u8], at: usize) -> Scan
     ensures { λ r. ⌜ Answers nullText nothingTold (now (source .entry)) at r ⌝ }
 {
     if !byte_is(source, at, b';') {
-        return Scan::Not(2);
+        return Scan::Not(TEXT_UNFIT);
     }
     Scan::Is(Text {
         content: 0,
@@ -26,7 +27,7 @@ pub(crate) fn boolean(source: &[u8], at: usize) -> Scan
     ensures { λ r. ⌜ Answers boolText boolTold (now (source .entry)) at r ⌝ }
 {
     if !byte_is(source, at, b':') {
-        return Scan::Not(2);
+        return Scan::Not(TEXT_UNFIT);
     }
     if bytes_are(source, at + 1, b'0', b';') {
         return Scan::Is(Text {
@@ -44,5 +45,5 @@ pub(crate) fn boolean(source: &[u8], at: usize) -> Scan
             next: at + 3,
         });
     }
-    Scan::Not(2)
+    Scan::Not(TEXT_UNFIT)
 }
