@@ -5,6 +5,7 @@ use native.Mathlib.Omega.{arith}
 use mathlib.Core.Path.{_≡_, refl, sym, ap, ap₂, _∙_, subst}
 use mathlib.Core.List.{List, [], _∷_, _++_}
 use mathlib.Core.Bool.{Bool, true, false, true≢false}
+use mathlib.Core.Logic.{⊎-elim}
 use lib.Dec.{leb, leb→le, not-T}
 use lib.ListN.{length, take, drop, replicate, drop-of-length-le}
 use lib.Seq.{sets-eq, length-sets, take-append-seam}
@@ -12,14 +13,15 @@ use borrow.Author.Tests.{le-leb, lt-leb}
 use Rattle.decimal.proofs.Decide.{Order, below, above, order, T-of, T-false, and-left, and-right}
 use Rattle.format.specs.Syntax.{Value, print}
 use Rattle.format.specs.Limits.{sourceLimit}
-use Rattle.format.specs.Answer.{Answer, ok, refused, _>>=_, require}
+use Rattle.format.specs.Answer.{Answer, ok, refused, _>>=_, require, codeOf, positionOf}
 use Rattle.format.specs.Read.{read}
 use Rattle.format.specs.Canonical.{canonical}
-use Rattle.format.specs.Reading.{cleared, over, tableAfter}
+use Rattle.format.specs.Reading.{capacityOf, cleared, over, tableAfter}
 use Rattle.format.specs.Fits.{IsPlan}
 use Rattle.format.proofs.Inversion.{read-ok}
 use Rattle.format.proofs.Results.{after-length}
-use Rattle.format.specs.Writing.{fitsIn, withRoom, canonicalBytes}
+use Rattle.format.specs.Writing.{fitsIn, withRoom, canonicalBytes, insertionOf, insertBytes}
+use Rattle.format.proofs.Answers.{not-both, bind-refused}
 use Rattle.editor.specs.Promise.{writingAnswer, Writes}
 use Rattle.editor.specs.Ends.{Refuses, Settles, Short, Spared, shrinks, short, Roomed, EditFits}
 use Rattle.tokens.specs.Tokens.{Token, tokens, writeTokens}
@@ -34,7 +36,9 @@ use Rattle.rewriting.specs.Edited.{canonicalText, editedText, writable, Parted}
 use Rattle.rewriting.specs.declared.inserted.Spot.{Spot}
 use Rattle.rewriting.proofs.Editable.{Untouched, by-spot, edited-most}
 use Rattle.rewriting.proofs.Measures.{texts-inside, canonical-text-most}
-use Rattle.placing.specs.Locating.{Located}
+use Rattle.placing.specs.declared.Placing.{Placing}
+use Rattle.placing.specs.Locating.{placingAnswer, spotFor, tableLocated, Locates}
+use Rattle.placing.proofs.SpotLaws.{Located, spot-leads}
 use Rattle.editor.specs.declared.Writing.{Writing}
 use Rattle.editor.proofs.Canonicalizing.{by-value}
 
@@ -228,17 +232,46 @@ module _ (capacity : ℕ) (source : List ℕ) (v : Value) (e : read capacity sou
 
 -- ---- inserting
 
-pub insert-sound : {source : List ℕ} {node place : ℕ} {key value before after : List ℕ} {p : Spot} → Located source node place key value before after p
-    → EditFits source (Edit.Insert p) key value
-insert-sound {source} {key = key} {value} {p = p} l =
-    let t = texts-inside source key value p in
-    record {
-      short = l .short;
-      inside = l .stands;
-      parted = λ q i. subst (Parted source) (one i) (l .parted);
-      key = t .0;
-      value = t .1;
-    }
-  where
-    one : {q r : Spot} → Edit.Insert q ≡ Edit.Insert r → q ≡ r
-    one i = cc
+-- the spot of what was placed, and what it leads to
+module _ {source : List ℕ} {node place : ℕ} {key value before after : List ℕ} {placing : Placing} (l : Locates source node place key value before after placing) where
+  module _ {p : Spot} (e : placing ≡ Placing.At p) where
+    spot-is : spotFor (capacityOf before) source node place key value ≡ ok p
+    spot-is = sym (l .answer) ∙ ap placingAnswer e
+
+    pub spot-table : after ≡ tableAfter source before
+    spot-table = l .table ∙ ap (λ (a : Answer Spot). tableLocated a source before) spot-is
+
+    pub located : Located (capacityOf before) source node place key value p
+    located = spot-leads (capacityOf before) source node place key value p spot-is
+
+    pub insert-sound : EditFits source (Edit.Insert p) key value
+    insert-sound =
+        let t = texts-inside source key value p in
+        record {
+          short = located .short;
+          inside = located .stands;
+          parted = λ q i. subst (Parted source) (same-spot i) (located .parted);
+          key = t .0;
+          value = t .1;
+        }
+      where
+        same-spot : {q r : Spot} → Edit.Insert q ≡ Edit.Insert r → q ≡ r
+        same-spot i = cc
+
+  module _ {code at : ℕ} (e : placing ≡ Placing.Refused code at) where
+    refused-is : spotFor (capacityOf before) source node place key value ≡ refused code at
+    refused-is = sym (l .answer) ∙ ap placingAnswer e
+
+    -- refused before 14, so whatever room the output has
+    insert-refused : (room : ℕ) → insertBytes (capacityOf before) room source node place key value ≡ refused code at
+    unfolding insertBytes spotFor
+    insert-refused room =
+        let s = bind-refused (insertionOf (capacityOf before) source node place key value) _ code at refused-is in
+        ⊎-elim (λ i. rw i) (λ i. absurd (not-both (sym (i .2)))) s
+
+    pub writes-unplaced : (out : List ℕ) {c p : ℕ} → c ≡ codeOf (placingAnswer placing) → p ≡ positionOf (placingAnswer placing)
+        → Writes (insertBytes (capacityOf before) (length out) source node place key value) source before after out out (Writing.Refused c p)
+    writes-unplaced out f h =
+        writes-refused source before out (insert-refused (length out) ∙ ap₂ refused (sym (f ∙ ap (λ (x : Placing). codeOf (placingAnswer x)) e))
+        (sym (h ∙ ap (λ (x : Placing). positionOf (placingAnswer x)) e)))
+        (l .table ∙ ap (λ (a : Answer Spot). tableLocated a source before) refused-is)

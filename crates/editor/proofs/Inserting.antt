@@ -7,15 +7,14 @@ use Rattle.format.specs.Syntax.{Head, own}
 use Rattle.format.specs.Answer.{ok}
 use Rattle.format.specs.Table.{width}
 use Rattle.format.specs.Reading.{capacityOf, answer, tableAfter}
-use Rattle.format.specs.Edit.{countShortest, newOrdinal, insert}
+use Rattle.format.specs.Edit.{upto, countShortest, newOrdinal, insert}
 use Rattle.format.specs.Writing.{insertBytes}
 use Rattle.format.proofs.Results.{after-length}
 use Rattle.format.proofs.Unique.{accepted-exactly}
 use Rattle.insertion.proofs.Inserting.{Inserted, inserted}
-use Rattle.insertion.proofs.Ways.{locates}
 use Rattle.tokens.specs.Tokens.{Token, scalar, opening, closing, keyScalar, tokensIn, writeTokens, raisedToken, nodesOf}
 use Rattle.tokens.proofs.TokenLaws.{tokens-write}
-use Rattle.placing.proofs.PairParts.{upto, after}
+use Rattle.placing.proofs.PairParts.{after}
 use Rattle.placing.proofs.Sites.{site-tokens, parts}
 use Rattle.placing.proofs.Gaps.{new-tokens}
 
@@ -47,7 +46,7 @@ pub record Preserved (room : ℕ) (t source : List ℕ) (node place : ℕ) (key 
 
 kept : {capacity room : ℕ} {source : List ℕ} {node place : ℕ} {key value bytes : List ℕ} (i : Inserted capacity room source node place key value bytes) → Kept i
 kept {node = node} {place} i =
-    let st = site-tokens (locates (i .old) node (i .site) (i .at)) in
+    let st = site-tokens (i .at) in
     record {
       front = st .front;
       head = st .head;

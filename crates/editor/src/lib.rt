@@ -13,8 +13,10 @@ use rewriting::write;
 ghost use mathlib.Core.Path.{_≡_};
 ghost use mathlib.Core.Bool.{true};
 ghost use lib.ListN.{length};
+ghost use Rattle.format.specs.Answer.{codeOf, positionOf};
 ghost use Rattle.format.specs.Reading.{capacityOf};
 ghost use Rattle.format.specs.Writing.{fitsIn, canonicalBytes, insertBytes};
+ghost use Rattle.placing.specs.Locating.{placingAnswer};
 ghost use Rattle.editor.specs.Promise.{Writes};
 ghost use Rattle.editor.specs.Ends.{Refuses, Settles, Short, Spared, EditFits, Roomed, Finishes};
 
@@ -143,6 +145,26 @@ pub fn canonicalize(source: &[u8], table: &mut [u64], out: &mut [u8]) -> Writing
     }
 }
 
+// The number of placing's refusal; 0 for a spot, since no refusal has number 0.
+fn code_of(placing: Placing) -> u8
+    ensures { λ r. ⌜ r ≡ codeOf (placingAnswer placing) ⌝ }
+{
+    match placing {
+        Placing::At(_) => 0,
+        Placing::Refused { code, at: _ } => code,
+    }
+}
+
+// Its position; 0 for a spot.
+fn position_of(placing: Placing) -> usize
+    ensures { λ r. ⌜ r ≡ positionOf (placingAnswer placing) ⌝ }
+{
+    match placing {
+        Placing::At(_) => 0,
+        Placing::Refused { code: _, at } => at,
+    }
+}
+
 // Inserting: puts one pair into the array at a node, before the pair at an index or behind the last one, and renumbers the references behind it. It leaves the
 // table that reading the plan written leaves; a refusal writes nothing, and makes every word of the table zero.
 pub fn insert(
@@ -158,8 +180,12 @@ pub fn insert(
         «array_node» «pair_index» (now (key .entry)) (now (value .entry)))
         (now (source .entry)) (now (table .entry)) (now (table .exit)) (now (out .entry)) (now (out .exit)) r ⌝ }
 {
-    match locate(source, array_node, pair_index, key, value, table) {
-        Placing::Refused { code, at } => Writing::Refused { code, at },
-        Placing::At(spot) => write_plan(source, Edit::Insert(spot), key, value, table, out),
-    }
+    let placing = locate(source, array_node, pair_index, key, value, table);
+    let Placing::At(spot) = placing else {
+        return Writing::Refused {
+            code: code_of(placing),
+            at: position_of(placing),
+        };
+    };
+    write_plan(source, Edit::Insert(spot), key, value, table, out)
 }

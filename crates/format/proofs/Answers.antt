@@ -1,5 +1,5 @@
 -- Laws of answers. Assumes nothing.
-use mathlib.Core.Path.{_≡_, refl, ap₂}
+use mathlib.Core.Path.{_≡_, refl, sym, ap₂}
 use mathlib.Core.Logic.{_⊎_, inl, inr}
 use mathlib.Core.Bool.{Bool, true, false}
 use Prim.Native.Nat.{ℕ}
@@ -30,6 +30,15 @@ bind-refused (refused c q) f n p e = let s = refused-same e in inl (ap₂ refuse
 pub require-ok : (t : Bool) (n p : ℕ) (x : Unit {0}) → require t n p ≡ ok x → T t
 require-ok true n p x e = tt
 require-ok false n p x e = absurd (not-both e)
+
+-- a test, by what came of it
+pub test-passed : {A : Type 0} (t : Bool) (n p : ℕ) (a x : A) → ok x ≡ (require t n p >>= λ u. ok a) → (t ≡ true) × (x ≡ a)
+test-passed true n p a x e = (refl, ok-same e)
+test-passed false n p a x e = absurd (not-both (sym e))
+
+pub test-failed : {A : Type 0} (t : Bool) (n p m q : ℕ) (a : A) → refused m q ≡ (require t n p >>= λ u. ok a) → (t ≡ false) × (m ≡ n) × (q ≡ p)
+test-failed true n p m q a e = absurd (not-both e)
+test-failed false n p m q a e = let s = refused-same e in (refl, s .0, s .1)
 
 -- what is made of what was made
 pub bind-map : {A B C : Type 0} (a : Answer A) (f : A → B) (g : B → C) → (a >>= λ x. ok (g (f x))) ≡ ((a >>= λ x. ok (f x)) >>= λ y. ok (g y))

@@ -15,3 +15,12 @@ _>>=_ (refused n p) f = refused n p
 abbrev pub require : Bool → (code at : ℕ) → Answer (Unit {0})
 require true n p = ok tt
 require false n p = refused n p
+
+-- "A refusal returns its number and a position": 0 where there is none, since no refusal has number 0
+abbrev pub codeOf : {A : Type 0} → Answer A → ℕ
+codeOf (ok a) = 0
+codeOf (refused n p) = n
+
+abbrev pub positionOf : {A : Type 0} → Answer A → ℕ
+positionOf (ok a) = 0
+positionOf (refused n p) = p

@@ -15,7 +15,7 @@ use Rattle.format.specs.Table.{flat, tableOf}
 use Rattle.format.specs.Shows.{nodeAt}
 use Rattle.format.specs.Canonical.{canonical}
 use Rattle.format.specs.Edit.{insert}
-use Rattle.format.specs.Writing.{keyOf, scalarOf, insertBytes}
+use Rattle.format.specs.Writing.{keyOf, scalarOf, insertionOf, insertBytes}
 
 pub data Outcome : Type 0 where
   refusal : (code at : ℕ) → Outcome
@@ -61,7 +61,7 @@ shown (insertion node place key value a) r i = sameAnswer a (i node place key va
 
 -- every case of a table, with all that it takes to compute it open
 unfoldable pub hold : List Case → Bool
-unfolding shown tableOf canonical insert keyOf scalarOf insertBytes read readBody readBranch readKey keyText digits number intText quotedText boolText
+unfolding shown tableOf canonical insert keyOf scalarOf insertionOf insertBytes read readBody readBranch readKey keyText digits number intText quotedText boolText
     floatText referenceText isFloat decimal decimalIn write
 hold [] = true
 hold (c ∷ cs) = shown (c .outcome) (read (c .capacity) (c .source)) (insertBytes (c .capacity) sourceLimit (c .source)) && hold cs

@@ -31,6 +31,12 @@ module _ {K L H R : Type 0} where
   atPath g f (q ∷ a) (ref r) = ref r
   atPath g f (q ∷ a) (branch h ps) = branch h (atPlace q (atPath g f a) ps)
 
+  -- the pairs before a place
+  abbrev pub upto : (place : ℕ) → Pairs K L H R → Pairs K L H R
+  upto zero ps = none
+  upto (suc p) none = none
+  upto (suc p) (pair k v ps) = pair k v (upto p ps)
+
   -- the keys of pairs
   abbrev pub keys : Pairs K L H R → List K
   keys none = []

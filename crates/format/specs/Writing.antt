@@ -71,9 +71,16 @@ plain (branch h ps) = refused 13 0
 unfoldable pub scalarOf : List ℕ → Answer Scalar
 scalarOf text = exactly (readValue (setting 1 text) 1 unseen 0 text) >>= plain
 
--- "Inserting: reading, 11, 12, 13, 9 (new key present), 8 (array at depth 64), 7 (two more nodes), 14; here 9, 8 and 7 have position 0."
-unfoldable pub insertBytes : (capacity room : ℕ) → (source : List ℕ) → (node place : ℕ) → (key value : List ℕ) → Answer (List ℕ)
-insertBytes capacity room source node place key value = do
+-- an insertion that only the room for bytes can still refuse: the plan given, the array, the key and the value
+pub record Insertion : Type 0 where
+  pub plan : Value
+  pub site : Site
+  pub key : Key
+  pub value : Scalar
+
+-- "Inserting: reading, 11, 12, 13, 9 (new key present), 8 (array at depth 64), 7 (two more nodes), 14; here 9, 8 and 7 have position 0.": up to 14
+unfoldable pub insertionOf : (capacity : ℕ) → (source : List ℕ) → (node place : ℕ) → (key value : List ℕ) → Answer Insertion
+insertionOf capacity source node place key value = do
   v ← read capacity source
   site ← arrayAt node v
   _ ← require (leb place (count (site .pairs))) 12 0
@@ -82,4 +89,14 @@ insertBytes capacity room source node place key value = do
   _ ← require (not (hasKey k (keys (site .pairs)))) 9 0
   _ ← require (ltb (suc (length (site .path))) depthLimit) 8 0
   _ ← require (leb (nodes v + 2) capacity) 7 0
-  withRoom room (print (insert (site .path) place k x v))
+  ok (record { plan = v; site = site; key = k; value = x })
+
+-- the syntax of the plan to write
+abbrev pub insertedPlan : (place : ℕ) → Insertion → Value
+insertedPlan place i = insert (i .site .path) place (i .key) (i .value) (i .plan)
+
+-- and 14
+unfoldable pub insertBytes : (capacity room : ℕ) → (source : List ℕ) → (node place : ℕ) → (key value : List ℕ) → Answer (List ℕ)
+insertBytes capacity room source node place key value = do
+  i ← insertionOf capacity source node place key value
+  withRoom room (print (insertedPlan place i))

@@ -11,7 +11,7 @@ use Rattle.format.specs.Syntax.{Key, Scalar, Head, Value, Values, own}
 use Rattle.format.specs.Edit.{putPair, atPlace, atPath, ordinalsUpto, ordinalsWithin, ordinalsBefore}
 use Rattle.format.proofs.OneText.{paths-length}
 use Rattle.insertion.specs.Shift.{shift}
-use Rattle.insertion.proofs.Ways.{WayTo, found, inside, WayIn, first, later}
+use Rattle.insertion.specs.Ways.{WayTo, found, inside, WayIn, first, later}
 
 -- ---- a list of paths grown by one at entry n, the others moved
 pub record Grown (old new : List TreePath) (n : ℕ) (move : TreePath → TreePath) (path : TreePath) : Type 0 where

@@ -17,7 +17,7 @@ use Rattle.format.specs.Edit.{insert}
 use Rattle.format.proofs.Keys.{equal-keys}
 use Rattle.format.proofs.Maps.{nodes-map, ordinals-map}
 use Rattle.format.proofs.OneText.{Taken, paths-length}
-use Rattle.insertion.proofs.Ways.{WayTo, found, inside, WayIn, first, later}
+use Rattle.insertion.specs.Ways.{WayTo, found, inside, WayIn, first, later}
 use Rattle.insertion.proofs.Grown.{grown, grown-length}
 use Rattle.insertion.proofs.Meanings.{raised-low, raised-high, raised-own}
 use Rattle.insertion.proofs.Sizes.{write-longer, limited}

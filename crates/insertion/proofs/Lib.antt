@@ -1,9 +1,10 @@
-pub mod Ways
+pub mod Arrays
 pub mod SiteRows
 pub mod Grown
 pub mod Meanings
 mod Sizes
 mod Kept
-mod PairTexts
+pub mod PairTexts
+pub mod Steps
 pub mod Inserting
 pub mod Refusing

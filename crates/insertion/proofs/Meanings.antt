@@ -16,7 +16,7 @@ use Rattle.format.specs.Edit.{putPair, atPlace, atPath, ordinalsBefore, newOrdi
 use Rattle.format.proofs.Maps.{refs-all, paths-map, map-map}
 use Rattle.format.proofs.OneText.{Taken, refs-taken}
 use Rattle.insertion.specs.Shift.{shift, shifted, insertMeaning}
-use Rattle.insertion.proofs.Ways.{WayTo}
+use Rattle.insertion.specs.Ways.{WayTo}
 use Rattle.insertion.proofs.Grown.{Grown, grown-new, grown-low, grown-high, grown, shift-empty}
 
 -- ---- a change and a map may change places

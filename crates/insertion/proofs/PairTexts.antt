@@ -1,5 +1,5 @@
 -- 13: the key text is exactly one key, the value text exactly one scalar. Assumes nothing.
-use mathlib.Core.Path.{_≡_, sym, ap, subst}
+use mathlib.Core.Path.{_≡_, refl, sym, ap, ap₂, subst}
 use mathlib.Core.Logic.{_⊎_, inl, inr}
 use mathlib.Core.List.{List, [], _∷_}
 use mathlib.Core.Bool.{true}
@@ -9,7 +9,7 @@ use Rattle.format.specs.Tree.{leaf, ref, branch}
 use Rattle.format.specs.Syntax.{array, Key, Scalar, Value, writeKey, writeScalar, write}
 use Rattle.format.specs.Limits.{unseen}
 use Rattle.format.specs.Fits.{KeyFits, ScalarFits, Sound}
-use Rattle.format.specs.Answer.{Answer, ok, refused}
+use Rattle.format.specs.Answer.{Answer, ok, refused, _>>=_}
 use Rattle.format.specs.Read.{setting, readKey, readValue}
 use Rattle.format.specs.Writing.{exactly, keyOf, plain, scalarOf}
 use Rattle.format.proofs.Answers.{ok-same, refused-same, not-both, bind-ok, bind-refused}
@@ -71,3 +71,17 @@ scalar-refused text n p e = go (bind-refused (exactly (readValue (setting 1 text
         ((v : Value) × (exactly (readValue (setting 1 text) 1 unseen 0 text) ≡ ok v) × (plain v ≡ refused n p)) → (n ≡ 13) × (p ≡ 0)
     go (inl h) = exactly-refused (readValue (setting 1 text) 1 unseen 0 text) n p h
     go (inr h) = plain-refused (h .0) n p (h .2)
+
+-- ---- both texts: 13 where they are not a key and a scalar
+module _ {B : Type 0} (key value : List ℕ) (g : Key → Scalar → Answer B)
+    (f : (k : Key) (x : Scalar) → KeyFits k → key ≡ writeKey k [] → ScalarFits x → value ≡ writeScalar x [] → ⊥) where
+  by-value : (k : Key) → keyOf key ≡ ok k → (a : Answer Scalar) → scalarOf value ≡ a → (a >>= λ x. g k x) ≡ refused 13 0
+  by-value k d (ok x) e = let kt = key-of key k d in let xt = scalar-of value x e in absurd (f k x (kt .1) (kt .0) (xt .1) (xt .0))
+  by-value k d (refused n p) e = let s = scalar-refused value n p e in ap₂ refused (s .0) (s .1)
+
+  by-key : (a : Answer Key) → keyOf key ≡ a → (a >>= λ k. scalarOf value >>= λ x. g k x) ≡ refused 13 0
+  by-key (ok k) e = by-value k e (scalarOf value) refl
+  by-key (refused n p) e = let s = key-refused key n p e in ap₂ refused (s .0) (s .1)
+
+  pub texts-refused : (keyOf key >>= λ k. scalarOf value >>= λ x. g k x) ≡ refused 13 0
+  texts-refused = by-key (keyOf key) refl

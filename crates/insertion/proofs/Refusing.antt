@@ -1,270 +1,74 @@
 -- Inserting is refused exactly where a row of paper 01's table holds and none before it does. Assumes nothing.
-use mathlib.Core.Path.{_≡_, refl, sym, ap, ap₂, _∙_, subst}
+use mathlib.Core.Path.{_≡_, refl, ap, _∙_, subst}
 use mathlib.Core.Logic.{_⊎_, inl, inr}
-use mathlib.Core.List.{List, [], _∷_, List·Memᴰ, List·Memᴰ·head, List·Memᴰ·tail, List·Memᴰ·cases-cons, List·Memᴰ·not-nil}
-use mathlib.Core.Bool.{Bool, true, false, not, _&&_, _||_}
-use Prim.Native.Nat.{ℕ, suc, _+_, _≤_, _<_}
+use mathlib.Core.List.{List}
+use mathlib.Core.Bool.{Bool, true, false, _&&_}
+use Prim.Native.Nat.{ℕ, _≤_, _<_}
 use native.Mathlib.Omega.{arith}
-use lib.Dec.{T, T-not, not-T, ltb, leb, leb→le}
+use lib.Dec.{not-T, leb, leb→le}
 use lib.ListN.{length}
-use borrow.Author.Tests.{ltb-true, ltb-false, leb-true, leb-false, lt-ltb, le-leb, lt-leb}
-use Rattle.decimal.proofs.Decide.{Test, passed, failed, test, T-of, T-true, T-false, and-right}
-use Rattle.format.specs.Kind.{Kind, tag}
-use Rattle.format.specs.Tree.{count, nodes}
-use Rattle.format.specs.Syntax.{Key, Scalar, Value, Values, writeKey, writeScalar, print}
-use Rattle.format.specs.Keys.{keyMeaning, sameKey, hasKey}
-use Rattle.format.specs.Limits.{sourceLimit, depthLimit}
-use Rattle.format.specs.Fits.{KeyFits, ScalarFits, IsPlan}
+use borrow.Author.Tests.{leb-false, le-leb, lt-leb}
+use Rattle.decimal.proofs.Decide.{Test, passed, failed, test, T-false, and-right}
+use Rattle.format.specs.Syntax.{Key, Scalar, Value, print}
+use Rattle.format.specs.Limits.{sourceLimit}
 use Rattle.format.specs.Answer.{Answer, ok, refused, _>>=_, require}
-use Rattle.format.specs.Read.{read}
-use Rattle.format.specs.Table.{Node, tableOf}
-use Rattle.format.specs.Shows.{nodeAt}
-use Rattle.format.specs.Edit.{keys, insert}
-use Rattle.format.specs.Writing.{Site, arrayAt, keyOf, scalarOf, fitsIn, withRoom, insertBytes}
-use Rattle.format.proofs.Answers.{not-both}
-use Rattle.format.proofs.Keys.{equal-keys}
-use Rattle.format.proofs.Rows.{at-first}
-use Rattle.format.proofs.Unique.{accepted-exactly}
-use Rattle.insertion.proofs.SiteRows.{in-plan, no-array, site-inside, site-depth}
-use Rattle.insertion.proofs.PairTexts.{key-of, scalar-of, key-text, scalar-text, key-refused, scalar-refused}
+use Rattle.format.specs.Edit.{insert}
+use Rattle.format.specs.Writing.{Site, fitsIn, withRoom, Insertion, insertedPlan, insertionOf, insertBytes}
+use Rattle.insertion.proofs.Steps.{WithNodes, StepRow, step-row, passes, steps-pass, row-step}
 
--- ---- 9: a key that means the same
-or-left : (a b : Bool) → T a → T (a || b)
-or-left true b h = tt
-or-left false b h = absurd h
+module _ (capacity room : ℕ) (source : List ℕ) (node place : ℕ) (key value : List ℕ) where
+  -- the refusals and their positions: a row of the steps before 14, or 14 with all of them passed
+  pub data RefusedRow : (code at : ℕ) → Type 0 where
+    step : (n p : ℕ) → StepRow capacity source node place key value n p → RefusedRow n p
+    noBytes : (old : Value) (s : Site) (k : Key) (x : Scalar) → WithNodes capacity source node place key value old s k x
+        → (room < length (print (insert (s .path) place k x old))) ⊎ (sourceLimit < length (print (insert (s .path) place k x old))) → RefusedRow 14 0
 
-or-right : (a b : Bool) → T b → T (a || b)
-or-right true b h = tt
-or-right false b h = h
+  -- ---- a refusal has its row
+  too-long : (n : ℕ) → fitsIn room n ≡ false → (room < n) ⊎ (sourceLimit < n)
+  too-long n e = go (test (leb n room))
+    where
+      go : Test (leb n room) → (room < n) ⊎ (sourceLimit < n)
+      go (passed t) = inr (leb-false n sourceLimit (rw (t, _&&_) at e))
+      go (failed t) = inl (leb-false n room t)
 
--- some key of these means what k means
-abbrev pub Equal : Key → List Key → Type 0
-Equal k js = (j : Key) × List·Memᴰ j js × (keyMeaning k ≡ keyMeaning j)
+  abbrev Told : Answer (List ℕ) → Type 0
+  Told (ok bytes) = Unit {0}
+  Told (refused n p) = RefusedRow n p
 
-pub equal-key : (k : Key) (js : List Key) → T (hasKey k js) → Equal k js
-equal-key k [] h = absurd h
-equal-key k (i ∷ js) h = go (test (sameKey k i)) (equal-key k js)
-  where
-    go : Test (sameKey k i) → (T (hasKey k js) → Equal k js) → Equal k (i ∷ js)
-    go (passed t) f = (i, List·Memᴰ·head refl, equal-keys k i .0 (T-of t))
-    go (failed t) f = let a = f (rw (t, _||_) at h) in (a .0, List·Memᴰ·tail (a .1), a .2)
+  written : (i : Insertion) → insertionOf capacity source node place key value ≡ ok i → (b : Bool) → fitsIn room (length (print (insertedPlan place i))) ≡ b
+      → Told (require b 14 0 >>= λ u. ok (print (insertedPlan place i)))
+  written i e true f = tt
+  written i e false f =
+      noBytes (i .plan) (i .site) (i .key) (i .value) (passes capacity source node place key value i e) (too-long (length (print (insertedPlan place i))) f)
 
-pub has-equal : (k j : Key) (js : List Key) → List·Memᴰ j js → keyMeaning k ≡ keyMeaning j → T (hasKey k js)
-has-equal k j [] m e = absurd (List·Memᴰ·not-nil m)
-has-equal k j (i ∷ js) m e = go (List·Memᴰ·cases-cons m) (λ n. has-equal k j js n e)
-  where
-    go : (j ≡ i) ⊎ List·Memᴰ j js → (List·Memᴰ j js → T (hasKey k js)) → T (hasKey k (i ∷ js))
-    go (inl s) f = or-left (sameKey k i) (hasKey k js) (equal-keys k i .1 (e ∙ ap keyMeaning s))
-    go (inr n) f = or-right (sameKey k i) (hasKey k js) (f n)
+  told : (a : Answer Insertion) → insertionOf capacity source node place key value ≡ a → Told (a >>= λ i. withRoom room (print (insertedPlan place i)))
+  told (ok i) e = written i e (fitsIn room (length (print (insertedPlan place i)))) refl
+  told (refused n p) e = step n p (step-row capacity source node place key value n p e)
 
-has-key : (b : Bool) → not b ≡ false → T b
-has-key true e = tt
-has-key false e = absurd (subst T e tt)
+  pub refused-row : (n p : ℕ) → insertBytes capacity room source node place key value ≡ refused n p → RefusedRow n p
+  unfolding insertBytes
+  refused-row n p e = subst Told e (told (insertionOf capacity source node place key value) refl)
 
--- ---- the steps passed, in the order "reading, 11, 12, 13, 9 (new key present), 8 (array at depth 64), 7 (two more nodes), 14"
-module _ (capacity : ℕ) (source : List ℕ) (node place : ℕ) (key value : List ℕ) where
-  pub record AtArray (old : Value) (s : Site) : Type 0 where
-    pub was : IsPlan capacity source old
-    pub at : arrayAt node old ≡ ok s
+  -- ---- where a row holds there is that refusal, and where none does the insertion
+  refuses-bytes : (n : ℕ) → (room < n) ⊎ (sourceLimit < n) → fitsIn room n ≡ false
+  refuses-bytes n (inl h) = rw (lt-leb n room h, _&&_)
+  refuses-bytes n (inr h) =
+      T-false (fitsIn room n) (not-T (fitsIn room n) (λ t. let m = leb→le n sourceLimit (and-right (leb n room) (leb n sourceLimit) t) in omega arith))
 
-  pub record AtPlace (old : Value) (s : Site) : Type 0 where
-    pub array : AtArray old s
-    pub within : place ≤ count (s .pairs)
+  module _ (old : Value) (s : Site) (k : Key) (x : Scalar) (w : WithNodes capacity source node place key value old s k x) where
+    abbrev new : List ℕ
+    new = print (insert (s .path) place k x old)
 
-  pub record WithPair (old : Value) (s : Site) (k : Key) (x : Scalar) : Type 0 where
-    pub spot : AtPlace old s
-    pub key-is : key ≡ writeKey k []
-    pub key-fits : KeyFits k
-    pub value-is : value ≡ writeScalar x []
-    pub value-fits : ScalarFits x
-
-  pub record WithNewKey (old : Value) (s : Site) (k : Key) (x : Scalar) : Type 0 where
-    pub pair : WithPair old s k x
-    pub new : (j : Key) → List·Memᴰ j (keys (s .pairs)) → keyMeaning k ≡ keyMeaning j → ⊥
-
-  pub record WithDepth (old : Value) (s : Site) (k : Key) (x : Scalar) : Type 0 where
-    pub fresh : WithNewKey old s k x
-    pub shallow : suc (length (s .path)) < depthLimit
-
-  pub record WithNodes (old : Value) (s : Site) (k : Key) (x : Scalar) : Type 0 where
-    pub level : WithDepth old s k x
-    pub small : nodes old + 2 ≤ capacity
-
-  module _ (room : ℕ) where
-    -- the refusals and their positions, each with the steps before it passed
-    pub data RefusedRow : (code at : ℕ) → Type 0 where
-      reading : (n p : ℕ) → read capacity source ≡ refused n p → RefusedRow n p
-      noArray : (old : Value) → IsPlan capacity source old → (node < nodes old → nodeAt (tableOf old) node .tag ≡ tag Kind.array → ⊥) → RefusedRow 11 0
-      noPlace : (old : Value) (s : Site) → AtArray old s → count (s .pairs) < place → RefusedRow 12 0
-      unfit : (old : Value) (s : Site) → AtPlace old s
-          → ((k : Key) (x : Scalar) → KeyFits k → key ≡ writeKey k [] → ScalarFits x → value ≡ writeScalar x [] → ⊥) → RefusedRow 13 0
-      sameKeyed : (old : Value) (s : Site) (k : Key) (x : Scalar) → WithPair old s k x → (j : Key) → List·Memᴰ j (keys (s .pairs)) → keyMeaning k ≡ keyMeaning j
-          → RefusedRow 9 0
-      tooDeep : (old : Value) (s : Site) (k : Key) (x : Scalar) → WithNewKey old s k x → suc (length (s .path)) ≡ depthLimit → RefusedRow 8 0
-      noNodes : (old : Value) (s : Site) (k : Key) (x : Scalar) → WithDepth old s k x → capacity < nodes old + 2 → RefusedRow 7 0
-      noBytes : (old : Value) (s : Site) (k : Key) (x : Scalar) → WithNodes old s k x
-          → (room < length (print (insert (s .path) place k x old))) ⊎ (sourceLimit < length (print (insert (s .path) place k x old))) → RefusedRow 14 0
-
-    -- ---- a refusal has its row
-    abbrev Told : {A : Type 0} → Answer A → Type 0
-    Told (ok a) = Unit {0}
-    Told (refused n p) = RefusedRow n p
-
-    bind : {A B : Type 0} (a : Answer A) (f : A → Answer B) → ((n p : ℕ) → a ≡ refused n p → RefusedRow n p) → ((x : A) → a ≡ ok x → Told (f x))
-        → Told (a >>= f)
-    bind (ok x) f h g = g x refl
-    bind (refused n p) f h g = h n p refl
-
-    ask : {B : Type 0} (t : Bool) (n p : ℕ) (f : Unit {0} → Answer B) → (t ≡ false → RefusedRow n p) → (t ≡ true → Told (f tt)) → Told (require t n p >>= f)
-    ask true n p f h g = g refl
-    ask false n p f h g = h refl
-
-    numbered : (n p m : ℕ) → (n ≡ m) × (p ≡ 0) → RefusedRow m 0 → RefusedRow n p
-    numbered n p m e r = subst (λ (q : ℕ). RefusedRow q p) (sym (e .0)) (subst (λ (q : ℕ). RefusedRow m q) (sym (e .1)) r)
-
-    too-long : (n : ℕ) → fitsIn room n ≡ false → (room < n) ⊎ (sourceLimit < n)
-    too-long n e = go (test (leb n room))
-      where
-        go : Test (leb n room) → (room < n) ⊎ (sourceLimit < n)
-        go (passed t) = inr (leb-false n sourceLimit (rw (t, _&&_) at e))
-        go (failed t) = inl (leb-false n room t)
-
-    told : Told (insertBytes capacity room source node place key value)
+    to-write : insertBytes capacity room source node place key value ≡ withRoom room (print (insert (s .path) place k x old))
     unfolding insertBytes
-    told =
-        bind (read capacity source) _ (λ n p e. reading n p e) (λ v a.
-        let was : IsPlan capacity source v = accepted-exactly capacity source v .0 a in
-        bind (arrayAt node v) _ (λ n p e. let r = no-array v node n p e in numbered n p 11 (r .0, r .1) (noArray v was (r .2))) (λ s b.
-        let array : AtArray v s = record { was = was; at = b } in
-        let ps : Values = s .pairs in
-        ask (leb place (count ps)) 12 0 _ (λ e. noPlace v s array (leb-false place (count ps) e)) (λ c.
-        let spot : AtPlace v s = record { array = array; within = leb-true place (count ps) c } in
-        bind (keyOf key) _ (λ n p e. numbered n p 13 (key-refused key n p e) (unfit v s spot (λ k x f t g u. not-both (sym e ∙ ap keyOf t ∙ key-text k f))))
-        (λ k d.
-        let kt = key-of key k d in
-        bind (scalarOf value) _
-        (λ n p e. numbered n p 13 (scalar-refused value n p e) (unfit v s spot (λ j x f t g u. not-both (sym e ∙ ap scalarOf u ∙ scalar-text x g)))) (λ x f.
-        let xt = scalar-of value x f in
-        let pair : WithPair v s k x = record { spot = spot; key-is = kt .0; key-fits = kt .1; value-is = xt .0; value-fits = xt .1 } in
-        ask (not (hasKey k (keys ps))) 9 0 _
-        (λ e. let q = equal-key k (keys ps) (has-key (hasKey k (keys ps)) e) in sameKeyed v s k x pair (q .0) (q .1) (q .2)) (λ g.
-        let fresh : WithNewKey v s k x = record { pair = pair; new = λ j m e. T-not (hasKey k (keys ps)) (T-of g) (has-equal k j (keys ps) m e) } in
-        ask (ltb (suc (length (s .path))) depthLimit) 8 0 _ (λ e.
-        tooDeep v s k x fresh (omega (arith, site-depth v node s (was .fits .valid) b, ltb-false (suc (length (s .path))) depthLimit e))) (λ h.
-        let level : WithDepth v s k x = record { fresh = fresh; shallow = ltb-true (suc (length (s .path))) depthLimit h } in
-        ask (leb (nodes v + 2) capacity) 7 0 _ (λ e. noNodes v s k x level (leb-false (nodes v + 2) capacity e)) (λ i.
-        let bytes : List ℕ = print (insert (s .path) place k x v) in
-        ask (fitsIn room (length bytes)) 14 0 _
-        (λ e. noBytes v s k x (record { level = level; small = leb-true (nodes v + 2) capacity i }) (too-long (length bytes) e)) (λ j. tt)))))))))
+    to-write = rw (steps-pass capacity source node place key value old s k x w)
 
-    pub refused-row : (n p : ℕ) → insertBytes capacity room source node place key value ≡ refused n p → RefusedRow n p
-    refused-row n p e = subst Told e told
-
-    -- ---- where a row holds there is that refusal, and where none does the insertion
-    reads : {old : Value} {s : Site} → AtArray old s → read capacity source ≡ ok old
-    reads {old} a = accepted-exactly capacity source old .1 (a .was)
-
-    placed : {old : Value} {s : Site} → AtPlace old s → leb place (count (s .pairs)) ≡ true
-    placed {old} {s} a = le-leb place (count (s .pairs)) (a .within)
-
-    keyed : {old : Value} {s : Site} {k : Key} {x : Scalar} → WithPair old s k x → keyOf key ≡ ok k
-    keyed {k = k} a = ap keyOf (a .key-is) ∙ key-text k (a .key-fits)
-
-    valued : {old : Value} {s : Site} {k : Key} {x : Scalar} → WithPair old s k x → scalarOf value ≡ ok x
-    valued {x = x} a = ap scalarOf (a .value-is) ∙ scalar-text x (a .value-fits)
-
-    newly : {old : Value} {s : Site} {k : Key} {x : Scalar} → WithNewKey old s k x → not (hasKey k (keys (s .pairs))) ≡ true
-    newly {s = s} {k = k} a =
-        T-true (not (hasKey k (keys (s .pairs))))
-        (not-T (hasKey k (keys (s .pairs))) (λ t. let q = equal-key k (keys (s .pairs)) t in a .new (q .0) (q .1) (q .2)))
-
-    -- all steps passed but the last
-    pub steps-pass : (old : Value) (s : Site) (k : Key) (x : Scalar) → WithNodes old s k x
-        → insertBytes capacity room source node place key value ≡ withRoom room (print (insert (s .path) place k x old))
-    unfolding insertBytes
-    steps-pass old s k x w =
-        let level = w .level in
-        let pair = level .fresh .pair in
-        let array = pair .spot .array in
-        rw (
-          reads array,
-          array .at,
-          placed (pair .spot),
-          keyed pair,
-          valued pair,
-          newly (level .fresh),
-          lt-ltb (suc (length (s .path))) depthLimit (level .shallow),
-          le-leb (nodes old + 2) capacity (w .small),
-        )
-
-    pub accepted : (old : Value) (s : Site) (k : Key) (x : Scalar) → WithNodes old s k x
-        → length (print (insert (s .path) place k x old)) ≤ room → length (print (insert (s .path) place k x old)) ≤ sourceLimit
+    pub accepted : length (print (insert (s .path) place k x old)) ≤ room → length (print (insert (s .path) place k x old)) ≤ sourceLimit
         → insertBytes capacity room source node place key value ≡ ok (print (insert (s .path) place k x old))
-    accepted old s k x w r l =
-        let n : ℕ = length (print (insert (s .path) place k x old)) in
-        steps-pass old s k x w ∙ rw (le-leb n room r, le-leb n sourceLimit l)
+    accepted r l = to-write ∙ rw (le-leb (length new) room r, le-leb (length new) sourceLimit l)
 
-    is-refused : {A : Type 0} (a : Answer A) → ((x : A) → a ≡ ok x → ⊥) → (m : ℕ) → ((n p : ℕ) → a ≡ refused n p → (n ≡ m) × (p ≡ 0)) → a ≡ refused m 0
-    is-refused (ok x) f m g = absurd (f x refl)
-    is-refused (refused n p) f m g = let e = g n p refl in ap₂ refused (e .0) (e .1)
-
-    refuses-array : (old : Value) → (node < nodes old → nodeAt (tableOf old) node .tag ≡ tag Kind.array → ⊥) → arrayAt node old ≡ refused 11 0
-    refuses-array old f = is-refused (arrayAt node old)
-        (λ s e. let h = in-plan old node s e in f (omega (arith, site-inside old node s e))
-        (ap (λ (y : Node). y .tag) (at-first (tableOf old) node _ _ _ (h .rows))))
-        11 (λ n p e. let r = no-array old node n p e in (r .0, r .1))
-
-    refuses-bytes : (n : ℕ) → (room < n) ⊎ (sourceLimit < n) → fitsIn room n ≡ false
-    refuses-bytes n (inl h) = rw (lt-leb n room h, _&&_)
-    refuses-bytes n (inr h) =
-        T-false (fitsIn room n) (not-T (fitsIn room n) (λ t. let m = leb→le n sourceLimit (and-right (leb n room) (leb n sourceLimit) t) in omega arith))
-
-    -- the texts' answers
-    data Texts : Type 0 where
-      badKey : keyOf key ≡ refused 13 0 → Texts
-      badValue : (k : Key) → keyOf key ≡ ok k → scalarOf value ≡ refused 13 0 → Texts
-      good : (k : Key) (x : Scalar) → keyOf key ≡ ok k → scalarOf value ≡ ok x → Texts
-
-    value-told : (k : Key) → keyOf key ≡ ok k → (a : Answer Scalar) → scalarOf value ≡ a → Texts
-    value-told k d (ok x) e = good k x d e
-    value-told k d (refused n p) e = let s = scalar-refused value n p e in badValue k d (e ∙ ap₂ refused (s .0) (s .1))
-
-    texts-told : (a : Answer Key) → keyOf key ≡ a → Texts
-    texts-told (ok k) e = value-told k e (scalarOf value) refl
-    texts-told (refused n p) e = let s = key-refused key n p e in badKey (e ∙ ap₂ refused (s .0) (s .1))
-
-    refuses-texts : {old : Value} {s : Site} → AtPlace old s
-        → ((k : Key) (x : Scalar) → KeyFits k → key ≡ writeKey k [] → ScalarFits x → value ≡ writeScalar x [] → ⊥) → Texts
-        → insertBytes capacity room source node place key value ≡ refused 13 0
-    unfolding insertBytes
-    refuses-texts a f (badKey e) = rw (reads (a .array), a .array .at, placed a, e)
-    refuses-texts a f (badValue k d e) = rw (reads (a .array), a .array .at, placed a, d, e)
-    refuses-texts a f (good k x d e) = let kt = key-of key k d in let xt = scalar-of value x e in absurd (f k x (kt .1) (kt .0) (xt .1) (xt .0))
-
-    -- "A number is given exactly when its row holds and nothing earlier in the order does."
-    pub row-refused : (n p : ℕ) → RefusedRow n p → insertBytes capacity room source node place key value ≡ refused n p
-    unfolding insertBytes
-    row-refused n p (reading m q e) = rw e
-    row-refused n p (noArray old w f) = rw (accepted-exactly capacity source old .1 w, refuses-array old f)
-    row-refused n p (noPlace old s a h) = rw (reads a, a .at, lt-leb place (count (s .pairs)) h)
-    row-refused n p (unfit old s a f) = refuses-texts a f (texts-told (keyOf key) refl)
-    row-refused n p (sameKeyed old s k x a j m e) =
-        let array = a .spot .array in
-        rw (reads array, array .at, placed (a .spot), keyed a, valued a, T-true (hasKey k (keys (s .pairs))) (has-equal k j (keys (s .pairs)) m e))
-    row-refused n p (tooDeep old s k x a e) =
-        let spot = a .pair .spot in
-        rw (reads (spot .array), spot .array .at, placed spot, keyed (a .pair), valued (a .pair), newly a, e)
-    row-refused n p (noNodes old s k x a h) =
-        let pair = a .fresh .pair in
-        let spot = pair .spot in
-        rw (
-          reads (spot .array),
-          spot .array .at,
-          placed spot,
-          keyed pair,
-          valued pair,
-          newly (a .fresh),
-          lt-ltb (suc (length (s .path))) depthLimit (a .shallow),
-          lt-leb (nodes old + 2) capacity h,
-        )
-    row-refused n p (noBytes old s k x a h) = steps-pass old s k x a ∙ rw (refuses-bytes (length (print (insert (s .path) place k x old))) h)
+  -- "A number is given exactly when its row holds and nothing earlier in the order does."
+  pub row-refused : (n p : ℕ) → RefusedRow n p → insertBytes capacity room source node place key value ≡ refused n p
+  unfolding insertBytes
+  row-refused n p (step m q r) = rw (row-step capacity source node place key value m q r)
+  row-refused n p (noBytes old s k x w h) = to-write old s k x w ∙ rw (refuses-bytes (length (print (insert (s .path) place k x old))) h)

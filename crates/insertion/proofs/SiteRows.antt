@@ -25,7 +25,8 @@ use Rattle.format.proofs.Answers.{refused-same, not-both, bind-refused}
 use Rattle.format.proofs.Rows.{at-first}
 use Rattle.format.proofs.Places.{InTable, PairsInTable, contents-in, first-in, others-in, contents-text, value-text, others-text}
 use Rattle.format.proofs.Tables.{end-is, whole}
-use Rattle.insertion.proofs.Ways.{WayTo, found, inside, WayIn, first, later, locates}
+use Rattle.insertion.specs.Ways.{WayTo, found, inside, WayIn, first, later}
+use Rattle.insertion.proofs.Arrays.{nodes-inside}
 
 -- ---- the array's row, the rows of its pairs and their bytes
 module _ (rows : List Node) (to : ℕ → ℕ) (source : List ℕ) where
@@ -103,10 +104,10 @@ pub record InPlan (v : Value) (node : ℕ) (s : Site) : Type 0 where
   pub text : drop offset (print v) ≡ writePairs (s .pairs) (byte "}" ∷ after)
   pub some : 1 ≤ ordinal
 
-pub in-plan : (v : Value) (node : ℕ) (s : Site) → arrayAt node v ≡ ok s → InPlan v node s
+pub in-plan : (v : Value) (node : ℕ) (s : Site) → WayTo v node (s .path) (s .pairs) → InPlan v node s
 unfolding tableOf
-in-plan v node s e =
-    let w = stands (tableOf v) (targetOf v) (print v) (locates v node s e) 0 0 1 node (omega arith) [] (whole v) refl in
+in-plan v node s way =
+    let w = stands (tableOf v) (targetOf v) (print v) way 0 0 1 node (omega arith) [] (whole v) refl in
     record {
       ordinal = w .ordinal;
       offset = w .offset;
@@ -137,9 +138,9 @@ module _ (rows : List Node) (to : ℕ → ℕ) where
         leads-in w (nextOffset o k v) (suc (i + nodes v)) (n + ordinals own v) at (omega arith) start (suc b) m (omega arith) (others-in rows to o i n k v ps t)
         (ap (λ (c : ℕ). nodeAt rows (suc c) .end) f ∙ end-is rows to v (valueOffset o k) (suc i) n (first-in rows to o i n k v ps t) ∙ omega arith)
 
-pub site-followed : (v : Value) (node : ℕ) (s : Site) → arrayAt node v ≡ ok s → follow (tableOf v) 0 (s .path) ≡ node
+pub site-followed : (v : Value) (node : ℕ) (s : Site) → WayTo v node (s .path) (s .pairs) → follow (tableOf v) 0 (s .path) ≡ node
 unfolding tableOf
-site-followed v node s e = leads (tableOf v) (targetOf v) (locates v node s e) 0 0 1 node (omega arith) (whole v)
+site-followed v node s way = leads (tableOf v) (targetOf v) way 0 0 1 node (omega arith) (whole v)
 
 -- ---- the node of every array has one
 no-key : (o i : ℕ) (k : Key) → keyNode o i k .tag ≡ tag Kind.array → ⊥
@@ -248,21 +249,12 @@ mutual
   valid-pairs-in (first k ps w) c js s l = valid-pairs w (s .3) (l .0)
   valid-pairs-in (later k v e w) c js s l = valid-pairs-in w c (k ∷ js) (s .4) (l .1)
 
-pub site-valid : (v : Value) (node : ℕ) (s : Site) → Valid v → arrayAt node v ≡ ok s → ValidPairs (s .pairs)
-site-valid v node s f e = valid-pairs (locates v node s e) (f .sound) (f .limited)
+pub site-valid : (v : Value) (node : ℕ) (s : Site) → Valid v → WayTo v node (s .path) (s .pairs) → ValidPairs (s .pairs)
+site-valid v node s f way = valid-pairs way (f .sound) (f .limited)
 
 -- ---- the array's nodes are the plan's
-mutual
-  nodes-inside : {v : Value} {j : ℕ} {a : TreePath} {qs : Values} → WayTo v j a qs → j + suc (nodesIn qs) ≤ nodes v
-  nodes-inside (found h ps c) = omega arith
-  nodes-inside (inside h w) = omega (arith, nodes-inside-in w)
-
-  nodes-inside-in : {ps : Values} {j q : ℕ} {a : TreePath} {qs : Values} → WayIn ps j q a qs → j + suc (nodesIn qs) ≤ nodesIn ps
-  nodes-inside-in (first k ps w) = omega (arith, nodes-inside w)
-  nodes-inside-in (later k v e w) = omega (arith, nodes-inside-in w)
-
-pub site-inside : (v : Value) (node : ℕ) (s : Site) → arrayAt node v ≡ ok s → node + suc (nodesIn (s .pairs)) ≤ nodes v
-site-inside v node s e = nodes-inside (locates v node s e)
+pub site-inside : (v : Value) (node : ℕ) (s : Site) → WayTo v node (s .path) (s .pairs) → node + suc (nodesIn (s .pairs)) ≤ nodes v
+site-inside v node s way = nodes-inside way
 
 -- ---- and it stands no deeper than the plan may
 mutual
@@ -274,5 +266,5 @@ mutual
   depth-most-in (first k ps w) d s = depth-most w d (s .0)
   depth-most-in (later k v e w) d s = depth-most-in w d (s .1)
 
-pub site-depth : (v : Value) (node : ℕ) (s : Site) → Valid v → arrayAt node v ≡ ok s → suc (length (s .path)) ≤ depthLimit
-site-depth v node s f e = depth-most (locates v node s e) depthLimit (f .shallow)
+pub site-depth : (v : Value) (node : ℕ) (s : Site) → Valid v → WayTo v node (s .path) (s .pairs) → suc (length (s .path)) ≤ depthLimit
+site-depth v node s f way = depth-most way depthLimit (f .shallow)

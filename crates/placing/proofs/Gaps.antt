@@ -4,30 +4,32 @@ use native.Mathlib.Numerals.{add-one}
 use native.Mathlib.Omega.{arith}
 use mathlib.Core.Path.{_≡_, refl, sym, ap, ap₂, _∙_, subst}
 use mathlib.Core.List.{List, [], _∷_, _++_, map, map-append, append-assoc}
-use lib.ListN.{length, drop, drop-of-length-le}
+use lib.ListN.{length, drop, length-append, length-drop, drop-of-length-le}
+use lib.Seq.{drop-at}
 use Rattle.format.specs.Bytes.{byte}
 use Rattle.format.specs.Kind.{Kind, tag}
-use Rattle.format.specs.Tree.{leaf, count, nodesIn}
-use Rattle.format.specs.Syntax.{array, Container, Key, Scalar, Head, Value, Values, writeKey, writeScalar, writeNumber, writeContainer, print}
+use Rattle.format.specs.Tree.{leaf, branch, count, nodesIn}
+use Rattle.format.specs.Syntax.{array, Container, Key, Scalar, Head, Value, Values, writeKey, writeScalar, writeNumber, writeContainer, writePairs, print}
 use Rattle.format.specs.Limits.{numberLimit}
 use Rattle.format.specs.Fits.{Valid}
-use Rattle.format.specs.Answer.{ok, refused}
+use Rattle.format.specs.Answer.{refused}
 use Rattle.format.specs.Canonical.{shortest}
-use Rattle.format.specs.Edit.{putPair, atPath, countShortest, newOrdinal, insert}
-use Rattle.format.specs.Writing.{Site, arrayAt}
-use Rattle.insertion.proofs.Ways.{locates}
+use Rattle.format.specs.Edit.{putPair, atPath, upto, countShortest, newOrdinal, insert}
+use Rattle.format.specs.Writing.{Site}
+use Rattle.insertion.specs.Ways.{WayTo}
 use Rattle.insertion.proofs.SiteRows.{site-valid}
 use Rattle.scanner.specs.declared.Text.{Text}
 use Rattle.scanner.specs.Scans.{Found}
 use Rattle.tokens.specs.Tokens.{Token, readToken, tokenTold, scalar, opening, closing, keyScalar, tokens, tokensIn, writeToken, writeTokens, raisedToken}
 use Rattle.tokens.specs.Tokens.{AllFit}
-use Rattle.tokens.proofs.TokenLaws.{tokens-write, tokens-append, all-append, tokens-fit, token-front, tokens-front, key-written}
+use Rattle.tokens.proofs.TokenLaws.{tokens-write, tokensIn-write, tokens-append, all-append, tokens-fit, token-front, tokens-front, key-written}
 use Rattle.tokens.proofs.Standing.{standing, never-unfit}
 use Rattle.rewriting.specs.declared.inserted.Spot.{Spot}
 use Rattle.placing.specs.declared.pass.Passed.{Passed}
 use Rattle.placing.specs.Passing.{Ahead, Reached}
+use Rattle.placing.specs.Locating.{before, nothing, pairsBefore, spotOf}
 use Rattle.placing.specs.Placing.{HeadAhead, BehindHead, SpotAhead, SpotIs}
-use Rattle.placing.proofs.PairParts.{upto, after}
+use Rattle.placing.proofs.PairParts.{after}
 use Rattle.placing.proofs.InsertedTexts.{Inserts, pieces}
 use Rattle.placing.proofs.Sites.{SiteTokens, site-tokens, nodes-pairs, balanced-pairs, put-count, put-tokens, parts, tokens-raised}
 
@@ -39,14 +41,29 @@ fit-back : (xs ys : List Token) → AllFit (xs ++ ys) → AllFit ys
 fit-back [] ys f = f
 fit-back (x ∷ xs) ys f = fit-back xs ys (f .1)
 
+-- ---- a position, and what stands before and behind it
+
+module _ {s : List ℕ} (front rest : List ℕ) (e : s ≡ front ++ rest) where
+  pub behind : drop (length front) s ≡ rest
+  behind = ap (drop (length front)) e ∙ drop-at front rest (length front) refl
+
+  pub no-further : length front ≤ length s
+  no-further = omega (arith, ap length e, length-append front rest)
+
+  index-is : {i : ℕ} → drop i s ≡ rest → i ≤ length s → i ≡ length front
+  index-is {i} d h = omega (arith, ap length e, length-append front rest, ap length d, length-drop i s)
+
+same-spot : (p q : Spot) → p .at ≡ q .at → p .inside ≡ q .inside → p .gap ≡ q .gap → p .count ≡ q .count → p .ordinal ≡ q .ordinal → p ≡ q
+same-spot p q a b c d e = λ i. record { at = a i; inside = b i; gap = c i; count = d i; ordinal = e i }
+
 -- ---- where they stand
 
-module _ (v : Value) (valid : Valid v) (node : ℕ) (site : Site) (e : arrayAt node v ≡ ok site) (place : ℕ) where
+module _ (v : Value) (valid : Valid v) (node : ℕ) (site : Site) (way : WayTo v node (site .path) (site .pairs)) (place : ℕ) where
   abbrev qs : Values
   qs = site .pairs
 
-  abbrev st : SiteTokens (tokens v) (λ g f. tokens (atPath g f (site .path) v)) node (site .path) qs
-  st = site-tokens (locates v node site e)
+  abbrev st : SiteTokens (tokens v) (λ g f. tokens (atPath g f (site .path) v)) (λ part. before part (site .path) v) node (site .path) qs
+  st = site-tokens way
 
   -- behind the gap, behind the head, and from the head on
   abbrev rest : List Token
@@ -90,7 +107,7 @@ module _ (v : Value) (valid : Valid v) (node : ℕ) (site : Site) (e : arrayAt n
       (fit-back (tokensIn qs) (closing ∷ st .back) (fit-back (st .front) _ all-fit .1))
 
   pub few : count qs ≤ numberLimit
-  few = site-valid v node site valid e .most
+  few = site-valid v node site valid way .most
 
   module _ (s : List ℕ) (p : s ≡ print v) where
     abbrev pub ahead : Ahead s 0 node
@@ -131,41 +148,95 @@ module _ (v : Value) (valid : Valid v) (node : ℕ) (site : Site) (e : arrayAt n
         same = λ i d h. refl;
       }
 
-      module _ (m o : ℕ) (c : m ≡ count qs) (z : Spot) (i : SpotIs s from-pairs from-gap (x .at) m o z) where
-        pub tag-here : drop (z .at) s ≡ from-head
-        tag-here = ap (λ (n : ℕ). drop n s) (i .tag) ∙ r .here
+    -- ---- the spot: each of its positions is the length of what stands before, and there stands the rest
 
-        abbrev pub inserts : Inserts s z
-        inserts = record {
-          front = record {
-            tokens = st .front;
-            fit = fit-front (st .front) _ all-fit;
-            text = p ∙ printed ∙ ap (writeTokens (st .front)) (sym tag-here);
-            inside = omega (arith, i .tag, r .inside);
-          };
-          head = record { spelling = st .head .spelling; pairs = count qs; few = few; rest = from-pairs; text = tag-here };
-          behind = sym (i .first .here);
-          counted = i .counted ∙ c;
-          inside = i .first .inside;
-          middle = record {
-            tokens = tokensIn (upto place qs);
-            fit = fit-front (tokensIn (upto place qs)) (tokensIn (after place qs)) pairs-fit;
-            text = i .first .here ∙ ap (writeTokens (tokensIn (upto place qs))) (sym (i .gap .here));
-            inside = i .gap .inside;
-          };
-          back = record {
-            tokens = rest;
-            fit = rest-fit;
-            text = i .gap .here ∙ ap (writeTokens rest) (sym (drop-of-length-le s {i = length s} (omega arith)));
-            inside = omega arith;
-          };
-        }
+    module _ (part : Value → List ℕ) (more : List ℕ) where
+      stands-before : (front : List ℕ) → print v ≡ writeTokens (st .front) (front ++ more) → part (branch (st .head) qs) ≡ front
+          → s ≡ before part (site .path) v ++ more
+      stands-before front t e =
+          p ∙ t ∙ tokens-front (st .front) (front ++ more) ∙ sym (append-assoc (writeTokens (st .front) []) front more)
+          ∙ ap (λ (l : List ℕ). l ++ more) (sym (tokens-front (st .front) front) ∙ ap (writeTokens (st .front)) (sym e) ∙ sym (st .stands part))
+
+    -- up to the array's tag, to its first pair and to the gap
+    abbrev to-head : List ℕ
+    to-head = before nothing (site .path) v
+
+    abbrev to-pairs : List ℕ
+    to-pairs = before (pairsBefore 0) (site .path) v
+
+    abbrev to-gap : List ℕ
+    to-gap = before (pairsBefore place) (site .path) v
+
+    pub before-head : s ≡ to-head ++ from-head
+    before-head = stands-before nothing from-head [] printed refl
+
+    -- the pairs before a place as text, and what follows
+    before-place : (q : ℕ) (more : List ℕ) → from-pairs ≡ writeTokens (tokensIn (upto q qs)) more → s ≡ before (pairsBefore q) (site .path) v ++ more
+    before-place q more d =
+        let head : Token = opening (st .head) (count qs) in
+        stands-before (pairsBefore q) more (writeToken head (writePairs (upto q qs) []))
+        (printed ∙ ap (writeTokens (st .front)) (sym (array-head (count qs) (st .head) from-pairs (st .is-array))
+        ∙ ap (writeToken head) (d ∙ tokens-front (tokensIn (upto q qs)) more ∙ ap (λ (l : List ℕ). l ++ more) (tokensIn-write (upto q qs) []))
+        ∙ token-front head (writePairs (upto q qs) []) more))
+        refl
+
+    pub before-pairs : s ≡ to-pairs ++ from-pairs
+    before-pairs = before-place 0 from-pairs refl
+
+    pub before-gap : s ≡ to-gap ++ from-gap
+    before-gap = before-place place from-gap refl
+
+    module _ (k : Key) (y : Scalar) where
+      abbrev spot : Spot
+      spot = spotOf place (record { plan = v; site = site; key = k; value = y })
+
+      pub tag-here : drop (spot .at) s ≡ from-head
+      tag-here = behind to-head from-head before-head
+
+      pub pairs-here : drop (spot .inside) s ≡ from-pairs
+      pairs-here = behind to-pairs from-pairs before-pairs
+
+      pub gap-here : drop (spot .gap) s ≡ from-gap
+      gap-here = behind to-gap from-gap before-gap
+
+      abbrev pub inserts : Inserts s spot
+      inserts = record {
+        front = record {
+          tokens = st .front;
+          fit = fit-front (st .front) _ all-fit;
+          text = p ∙ printed ∙ ap (writeTokens (st .front)) (sym tag-here);
+          inside = no-further to-head from-head before-head;
+        };
+        head = record { spelling = st .head .spelling; pairs = count qs; few = few; rest = from-pairs; text = tag-here };
+        behind = sym pairs-here;
+        counted = refl;
+        inside = no-further to-pairs from-pairs before-pairs;
+        middle = record {
+          tokens = tokensIn (upto place qs);
+          fit = fit-front (tokensIn (upto place qs)) (tokensIn (after place qs)) pairs-fit;
+          text = pairs-here ∙ ap (writeTokens (tokensIn (upto place qs))) (sym gap-here);
+          inside = no-further to-gap from-gap before-gap;
+        };
+        back = record {
+          tokens = rest;
+          fit = rest-fit;
+          text = gap-here ∙ ap (writeTokens rest) (sym (drop-of-length-le s {i = length s} (omega arith)));
+          inside = omega arith;
+        };
+      }
+
+      -- what the code reached is that spot
+      module _ (x : Passed) (r : Reached s from-head (length (site .path)) x) (m o : ℕ) (z : Spot) (i : SpotIs s from-pairs from-gap (x .at) m o z) where
+        pub spot-is : m ≡ count qs → o ≡ newOrdinal (site .path) place v → z ≡ spot
+        spot-is c n =
+            same-spot z spot (i .tag ∙ index-is to-head from-head before-head (r .here) (r .inside)) (index-is to-pairs from-pairs before-pairs (i .first .here) (i .first .inside))
+            (index-is to-gap from-gap before-gap (i .gap .here) (i .gap .inside)) (i .counted ∙ c) (i .taken ∙ n)
 
 -- ---- the bytes with the pair in it
 
-module _ (v : Value) (node : ℕ) (site : Site) (e : arrayAt node v ≡ ok site) (place : ℕ) (k : Key) (x : Scalar) where
-  abbrev tk : SiteTokens (tokens v) (λ g f. tokens (atPath g f (site .path) v)) node (site .path) (site .pairs)
-  tk = site-tokens (locates v node site e)
+module _ (v : Value) (node : ℕ) (site : Site) (way : WayTo v node (site .path) (site .pairs)) (place : ℕ) (k : Key) (x : Scalar) where
+  abbrev tk : SiteTokens (tokens v) (λ g f. tokens (atPath g f (site .path) v)) (λ part. before part (site .path) v) node (site .path) (site .pairs)
+  tk = site-tokens way
 
   abbrev K : ℕ
   K = newOrdinal (site .path) place v

@@ -7,5 +7,6 @@ mod SiteWords
 mod StepLaws
 mod InsertedTexts
 pub mod Gaps
-mod SpotLaws
+pub mod SpotLaws
 mod Locating
+pub mod OneSpot

@@ -1,35 +1,42 @@
 -- From reading to the place. Assumes nothing.
-use Prim.Native.Nat.{ℕ, _/_, _≤_}
-use native.Mathlib.Omega.{arith}
-use mathlib.Core.Path.{_≡_, sym, ap, _∙_, subst}
+use Prim.Native.Nat.{ℕ, _/_}
+use mathlib.Core.Path.{_≡_, sym, ap, ap₂, _∙_, subst}
 use mathlib.Core.List.{List}
 use lib.ListN.{length, replicate}
-use Rattle.format.specs.Limits.{sourceLimit}
 use Rattle.format.specs.Fits.{IsPlan}
-use Rattle.format.specs.Answer.{Answer}
+use Rattle.format.specs.Answer.{Answer, refused, codeOf, positionOf}
 use Rattle.format.specs.Table.{width}
 use Rattle.format.specs.Reading.{capacityOf, cleared, Counts}
-use Rattle.format.specs.Writing.{insertBytes}
 use Rattle.format.proofs.Inversion.{read-ok}
 use Rattle.format.proofs.Results.{after-accepted, after-refused, after-length}
-use Rattle.insertion.proofs.Refusing as refusing
+use Rattle.format.specs.Read.{read}
+use Rattle.insertion.proofs.Steps.{reading, row-step}
 use Rattle.reader.specs.declared.Reading.{Reading}
-use Rattle.reader.specs.Promise.{Reads}
+use Rattle.reader.specs.Promise.{readingAnswer, Reads}
 use Rattle.reader.proofs.Promised.{accepted, refusal}
 use Rattle.rewriting.specs.declared.inserted.Spot.{Spot}
 use Rattle.placing.specs.declared.Placing.{Placing}
-use Rattle.placing.specs.Placing.{Given, FindsSpot, placingOf}
-use Rattle.placing.specs.Locating.{Locates}
+use Rattle.placing.specs.Placing.{Given, FindsSpot}
+use Rattle.placing.specs.Locating.{placingAnswer, spotFor, tableLocated, Locates}
+
+unread : (s : List ℕ) (capacity node place : ℕ) (key value : List ℕ) {c p : ℕ} → read capacity s ≡ refused c p
+    → spotFor capacity s node place key value ≡ refused c p
+unfolding spotFor
+unread s capacity node place key value {c} {p} u = rw (row-step capacity s node place key value c p (reading c p u))
 
 module _ {s t t′ : List ℕ} {reading : Reading} (r : Reads s t t′ reading) where
   -- ---- reading's refusal is inserting's
 
-  pub locates-unread : (node place : ℕ) (key value : List ℕ) {code at : ℕ} {placing : Placing} → reading ≡ Reading.Refused code at → placing ≡ placingOf reading
-      → Locates s node place key value t t′ placing
-  locates-unread node place key value {code} {at} e f =
+  pub locates-unread : (node place : ℕ) (key value : List ℕ) {code at c p : ℕ} → reading ≡ Reading.Refused code at
+      → c ≡ codeOf (readingAnswer reading) → p ≡ positionOf (readingAnswer reading) → Locates s node place key value t t′ (Placing.Refused c p)
+  unfolding readingAnswer
+  locates-unread node place key value {code} {at} e f h =
       let u = refusal (subst (Reads s t t′) e r) in
-      subst (Locates s node place key value t t′) (sym (f ∙ ap placingOf e))
-      (r .table ∙ after-refused s t code at u, λ room. refusing.row-refused (capacityOf t) s node place key value room code at (refusing.reading code at u))
+      let told : spotFor (capacityOf t) s node place key value ≡ refused code at = unread s (capacityOf t) node place key value u in
+      record {
+        answer = ap₂ refused (f ∙ ap (λ (x : Reading). codeOf (readingAnswer x)) e) (h ∙ ap (λ (x : Reading). positionOf (readingAnswer x)) e) ∙ sym told;
+        table = r .table ∙ after-refused s t code at u ∙ ap (λ (a : Answer Spot). tableLocated a s t) (sym told);
+      }
 
   -- ---- a plan that was read
 
@@ -51,23 +58,17 @@ module _ {s t t′ : List ℕ} {reading : Reading} (r : Reads s t t′ reading) 
           table = r .table ∙ after-accepted s t (a .value) (a .read);
         }
 
-    short : length s ≤ sourceLimit
-    short = let p = given .plan in omega (arith, p .fits .valid .short, ap length (p .printed))
-
-    module _ (node place : ℕ) (key value : List ℕ) where
+    module _ (node place : ℕ) (key value : List ℕ) (placing : Placing) (p : FindsSpot s t′ node place key value placing) where
       -- the table that reading leaves has the room of the one given
-      as-given : (room : ℕ) {bytes : Answer (List ℕ)} → insertBytes (capacityOf t′) room s node place key value ≡ bytes
-          → insertBytes (capacityOf t) room s node place key value ≡ bytes
-      as-given room f = ap (λ (c : ℕ). insertBytes c room s node place key value) (sym same-capacity) ∙ f
+      answers : placingAnswer placing ≡ spotFor (capacityOf t) s node place key value
+      answers = p ∙ ap (λ (c : ℕ). spotFor c s node place key value) same-capacity
 
-      module _ {placing : Placing} (p : FindsSpot s t′ node place key value placing) where
-        pub locates-refused : {code at : ℕ} {t″ : List ℕ} → placing ≡ Placing.Refused code at → t″ ≡ cleared t′ → Locates s node place key value t t″ placing
-        locates-refused {t″ = t″} f z =
-            let q = subst (FindsSpot s t′ node place key value) f p in
-            subst (Locates s node place key value t t″) (sym f) (z ∙ ap (λ (n : ℕ). replicate n 0) same-length, λ room. as-given room (q room))
+      located : {t″ : List ℕ} → t″ ≡ tableLocated (placingAnswer placing) s t → Locates s node place key value t t″ placing
+      located z = record { answer = answers; table = z ∙ ap (λ (a : Answer Spot). tableLocated a s t) answers }
 
-        pub locates-at : {spot : Spot} → placing ≡ Placing.At spot → Locates s node place key value t t′ placing
-        locates-at f =
-            let q = subst (FindsSpot s t′ node place key value) f p in
-            subst (Locates s node place key value t t′) (sym f)
-            (record { table = r .table; stands = q .stands; parted = q .parted; short = short; bytes = λ room. as-given room (q .bytes room) })
+      pub locates-refused : {code at : ℕ} {t″ : List ℕ} → placing ≡ Placing.Refused code at → t″ ≡ cleared t′ → Locates s node place key value t t″ placing
+      locates-refused f z =
+          located (z ∙ ap (λ (n : ℕ). replicate n 0) same-length ∙ ap (λ (x : Placing). tableLocated (placingAnswer x) s t) (sym f))
+
+      pub locates-at : {spot : Spot} → placing ≡ Placing.At spot → Locates s node place key value t t′ placing
+      locates-at f = located (r .table ∙ ap (λ (x : Placing). tableLocated (placingAnswer x) s t) (sym f))

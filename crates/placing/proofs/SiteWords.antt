@@ -13,26 +13,24 @@ use Rattle.format.specs.Tree.{leaf, ref, branch, none, pair, count, nodes, Tree
 use Rattle.format.specs.Syntax.{intKey, stringKey, array, Key, Container, Value, Values, own, writeKey, write, writePairs, print}
 use Rattle.format.specs.Keys.{hasKey}
 use Rattle.format.specs.Fits.{KeyFits, SoundIn, Valid}
-use Rattle.format.specs.Answer.{ok}
 use Rattle.format.specs.Table.{Node, words, width, wordAt, endWord, ordinalWord, contentWord, sizeWord, linkWord, pairEnd, flat, textOffset, keyNode}
 use Rattle.format.specs.Table.{branchNode, table, tableIn, targetOf, tableOf, valueOffset, nextOffset}
 use Rattle.format.specs.Shows.{ordinalsOf, upFrom, nodeAt}
-use Rattle.format.specs.Edit.{keys, ordinalsUpto, ordinalsWithin, ordinalsBefore, newOrdinal}
-use Rattle.format.specs.Writing.{Site, arrayAt}
+use Rattle.format.specs.Edit.{keys, upto, ordinalsUpto, ordinalsWithin, ordinalsBefore, newOrdinal}
+use Rattle.format.specs.Writing.{Site}
 use Rattle.format.proofs.Fronts.{number-length, quoted-length}
 use Rattle.format.proofs.Rows.{at-first, at-next, tableIn-length}
 use Rattle.format.proofs.Places.{PairsInTable, first-in, others-in, others-text, quoted-text}
 use Rattle.format.proofs.Tables.{end-is}
 use Rattle.format.proofs.Ordinals.{tableIn-ordinals}
 use Rattle.format.proofs.Results.{tableOf-length, flat-length}
-use Rattle.insertion.proofs.Ways.{WayTo, found, inside, WayIn, first, later, locates}
+use Rattle.insertion.specs.Ways.{WayTo, found, inside, WayIn, first, later}
 use Rattle.insertion.proofs.SiteRows.{in-plan, site-valid, site-inside}
 use Rattle.keys.specs.KeyWords.{keyWordsAt, keyWordsIn, Held}
 use Rattle.keys.proofs.NodeKeys.{key-there}
 use Rattle.keys.specs.declared.KeyWords.{KeyWords}
 use Rattle.keys.proofs.SameWords.{words-same}
 use Rattle.placing.specs.Words.{pairNode, carriers, GapBounds, Walks, keyAmong}
-use Rattle.placing.proofs.PairParts.{upto}
 
 -- ---- the words of a list of nodes
 flat-at : (rows : List Node) (rest : List ℕ) (i w : ℕ) → i < length rows → w < width
@@ -222,7 +220,7 @@ module _ (v : Value) (t rest : List ℕ) (e : t ≡ flat (tableOf v) ++ rest) wh
           (omega arith) (others-text source o j u (writePairs ps r) d) (s .4))
 
   -- ---- an array
-  module _ (node : ℕ) (s : Site) (a : arrayAt node v ≡ ok s) where
+  module _ (node : ℕ) (s : Site) (a : WayTo v node (s .path) (s .pairs)) where
     array-row : nodeAt (tableOf v) node ≡ branchNode 0 (in-plan v node s a .ordinal) array (count (s .pairs)) (node + suc (nodesIn (s .pairs)))
     array-row = at-first (tableOf v) node _ _ _ (in-plan v node s a .rows)
 
@@ -254,7 +252,7 @@ module _ (v : Value) (t rest : List ℕ) (e : t ≡ flat (tableOf v) ++ rest) wh
         on = omega (arith, gap-node p l);
         inside = omega (arith, long, site-inside v node s a, gap-node p l, upto-most p (s .pairs));
       };
-      low = omega (arith, in-plan v node s a .new 0, before-most (locates v node s a));
+      low = omega (arith, in-plan v node s a .new 0, before-most a);
       inside = omega (arith, long, site-inside v node s a);
     }
 

@@ -5,12 +5,15 @@ use mathlib.Core.Path.{_≡_, refl, sym, ap, ap₂, _∙_}
 use mathlib.Core.List.{List, [], _∷_, _++_, map, map-append, append-assoc}
 use lib.ListN.{length}
 use Rattle.format.specs.Tree.{leaf, ref, branch, none, pair, TreePath, count, nodes, nodesIn, mapPairs}
-use Rattle.format.specs.Syntax.{array, Key, Scalar, Head, Value, Values}
-use Rattle.format.specs.Edit.{putPair, atPlace, atPath, raised, renumbered}
+use Rattle.format.specs.Syntax.{array, Key, Scalar, Head, Value, Values, writeKey, write}
+use Rattle.format.specs.Edit.{putPair, atPlace, atPath, upto, raised, renumbered}
 use Rattle.format.proofs.Maps.{count-map}
-use Rattle.insertion.proofs.Ways.{WayTo, found, inside, WayIn, first, later}
-use Rattle.tokens.specs.Tokens.{Token, scalar, opening, closing, keyScalar, tokens, tokensIn, raisedToken, nodesOf, opened, closed}
-use Rattle.placing.proofs.PairParts.{upto, after}
+use Rattle.insertion.specs.Ways.{WayTo, found, inside, WayIn, first, later}
+use Rattle.tokens.specs.Tokens.{Token, scalar, opening, closing, keyScalar, tokens, tokensIn, writeToken, writeTokens, raisedToken, nodesOf, opened}
+use Rattle.tokens.specs.Tokens.{closed}
+use Rattle.tokens.proofs.TokenLaws.{tokens-append, tokens-write, key-written}
+use Rattle.placing.specs.Locating.{before, beforeIn}
+use Rattle.placing.proofs.PairParts.{after}
 
 -- ---- counts of tokens
 
@@ -53,13 +56,16 @@ mutual
 abbrev whole : List Token → Head → Values → List Token → List Token
 whole front h ps back = front ++ (opening h (count ps) ∷ tokensIn ps ++ (closing ∷ back))
 
-pub record SiteTokens (all : List Token) (edited : (Head → Head) → (Values → Values) → List Token) (node : ℕ) (a : TreePath) (qs : Values) : Type 0 where
+pub record SiteTokens (all : List Token) (edited : (Head → Head) → (Values → Values) → List Token) (earlier : (Value → List ℕ) → List ℕ)
+    (node : ℕ) (a : TreePath) (qs : Values) : Type 0 where
   pub front : List Token
   pub head : Head
   pub back : List Token
   pub is-array : head .container ≡ array
   pub split : all ≡ whole front head qs back
   pub edits : (g : Head → Head) (f : Values → Values) → edited g f ≡ whole front (g head) (f qs) back
+  -- what stands before a part of the array
+  pub stands : (part : Value → List ℕ) → earlier part ≡ writeTokens front (part (branch head qs))
   pub nodes : nodesOf front ≡ node
   pub level : opened front ≡ closed front + length a
 
@@ -69,15 +75,16 @@ place-count zero f (pair k v ps) = refl
 place-count (suc q) f (pair k v ps) = ap suc (place-count q f ps)
 
 -- behind more tokens, and before more
-before : (xs front : List Token) (h : Head) (ps : Values) (back ys : List Token) → xs ++ (whole front h ps back ++ ys) ≡ whole (xs ++ front) h ps (back ++ ys)
-before xs front h ps back ys =
+between : (xs front : List Token) (h : Head) (ps : Values) (back ys : List Token) → xs ++ (whole front h ps back ++ ys) ≡ whole (xs ++ front) h ps (back ++ ys)
+between xs front h ps back ys =
     ap (λ (l : List Token). xs ++ l) (append-assoc front (opening h (count ps) ∷ tokensIn ps ++ (closing ∷ back)) ys
     ∙ ap (λ (l : List Token). front ++ (opening h (count ps) ∷ l)) (append-assoc (tokensIn ps) (closing ∷ back) ys))
     ∙ sym (append-assoc xs front (opening h (count ps) ∷ tokensIn ps ++ (closing ∷ back ++ ys)))
 
 mutual
-  pub site-tokens : {v : Value} {i : ℕ} {a : TreePath} {qs : Values} → WayTo v i a qs → SiteTokens (tokens v) (λ g f. tokens (atPath g f a v)) i a qs
-  site-tokens (found h ps c) = record { front = []; head = h; back = []; is-array = c; split = refl; edits = λ g f. refl; nodes = refl; level = refl }
+  pub site-tokens : {v : Value} {i : ℕ} {a : TreePath} {qs : Values} → WayTo v i a qs
+      → SiteTokens (tokens v) (λ g f. tokens (atPath g f a v)) (λ part. before part a v) i a qs
+  site-tokens (found h ps c) = record { front = []; head = h; back = []; is-array = c; split = refl; edits = λ g f. refl; stands = λ part. refl; nodes = refl; level = refl }
   site-tokens (inside h {ps} {qs} {q = q} {a = a} w) =
       let s = site-tokens-in w in
       record {
@@ -87,16 +94,17 @@ mutual
         is-array = s .is-array;
         split =
             ap (λ (l : List Token). opening h (count ps) ∷ l ++ (closing ∷ [])) (s .split)
-            ∙ before (opening h (count ps) ∷ []) (s .front) (s .head) qs (s .back) (closing ∷ []);
+            ∙ between (opening h (count ps) ∷ []) (s .front) (s .head) qs (s .back) (closing ∷ []);
         edits = λ g f.
             ap₂ (λ (n : ℕ) (l : List Token). opening h n ∷ l ++ (closing ∷ [])) (place-count q (atPath g f a) ps) (s .edits g f)
-            ∙ before (opening h (count ps) ∷ []) (s .front) (g (s .head)) (f qs) (s .back) (closing ∷ []);
+            ∙ between (opening h (count ps) ∷ []) (s .front) (g (s .head)) (f qs) (s .back) (closing ∷ []);
+        stands = λ part. ap (writeToken (opening h (count ps))) (s .stands part);
         nodes = omega (arith, s .nodes);
         level = omega (arith, s .level);
       }
 
   site-tokens-in : {ps : Values} {i q : ℕ} {a : TreePath} {qs : Values} → WayIn ps i q a qs
-      → SiteTokens (tokensIn ps) (λ g f. tokensIn (atPlace q (atPath g f a) ps)) i a qs
+      → SiteTokens (tokensIn ps) (λ g f. tokensIn (atPlace q (atPath g f a) ps)) (λ part. beforeIn q (before part a) ps) i a qs
   site-tokens-in (first k {v} ps {qs} w) =
       let s = site-tokens w in
       let key : Token = scalar (keyScalar k) in
@@ -105,9 +113,10 @@ mutual
         head = s .head;
         back = s .back ++ tokensIn ps;
         is-array = s .is-array;
-        split = ap (λ (l : List Token). key ∷ l ++ tokensIn ps) (s .split) ∙ before (key ∷ []) (s .front) (s .head) qs (s .back) (tokensIn ps);
+        split = ap (λ (l : List Token). key ∷ l ++ tokensIn ps) (s .split) ∙ between (key ∷ []) (s .front) (s .head) qs (s .back) (tokensIn ps);
         edits =
-            λ g f. ap (λ (l : List Token). key ∷ l ++ tokensIn ps) (s .edits g f) ∙ before (key ∷ []) (s .front) (g (s .head)) (f qs) (s .back) (tokensIn ps);
+            λ g f. ap (λ (l : List Token). key ∷ l ++ tokensIn ps) (s .edits g f) ∙ between (key ∷ []) (s .front) (g (s .head)) (f qs) (s .back) (tokensIn ps);
+        stands = λ part. ap (writeKey k) (s .stands part) ∙ sym (key-written k _);
         nodes = omega (arith, s .nodes);
         level = omega (arith, s .level);
       }
@@ -122,6 +131,9 @@ mutual
         split = ap (λ (l : List Token). key ∷ tokens v ++ l) (s .split) ∙ ap {B = List Token} (λ l. key ∷ l) (sym (append-assoc (tokens v) (s .front) _));
         edits = λ g f.
             ap (λ (l : List Token). key ∷ tokens v ++ l) (s .edits g f) ∙ ap {B = List Token} (λ l. key ∷ l) (sym (append-assoc (tokens v) (s .front) _));
+        stands = λ part.
+            ap (λ (r : List ℕ). writeKey k (write v r)) (s .stands part)
+            ∙ sym (key-written k _ ∙ ap (writeKey k) (tokens-append (tokens v) (s .front) _ ∙ tokens-write v _));
         nodes = omega (arith, e, s .nodes, nodes-append (tokens v) (s .front), nodes-tokens v);
         level = omega (arith, s .level, opened-append (tokens v) (s .front), closed-append (tokens v) (s .front), balanced v);
       }

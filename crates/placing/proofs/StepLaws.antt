@@ -18,17 +18,22 @@ use Rattle.format.specs.Answer.{Answer, ok, refused}
 use Rattle.format.specs.Table.{Node, width, wordAt, tagWord, flat, tableOf}
 use Rattle.format.specs.Shows.{nodeAt}
 use Rattle.format.specs.Reading.{capacityOf}
-use Rattle.format.specs.Edit.{keys, newOrdinal}
-use Rattle.format.specs.Writing.{Site, arrayAt, insertBytes}
+use Rattle.format.specs.Edit.{keys, upto, newOrdinal}
+use Rattle.format.specs.Writing.{Site, arrayAt}
 use Rattle.format.proofs.Results.{flat-length, tableOf-length}
 use Rattle.insertion.proofs.SiteRows.{in-plan, no-array, site-inside, site-depth}
-use Rattle.insertion.proofs.Refusing.{AtArray, AtPlace, WithPair, WithNewKey, WithDepth, WithNodes, RefusedRow, noArray, noPlace, unfit, sameKeyed, tooDeep}
-use Rattle.insertion.proofs.Refusing.{noNodes, row-refused, equal-key, has-equal}
+use Rattle.insertion.specs.Ways.{WayTo}
+use Rattle.insertion.proofs.Arrays.{locates}
+use Rattle.insertion.proofs.Steps.{AtArray, AtPlace, WithPair, WithNewKey, WithDepth, WithNodes, StepRow, noArray, noPlace, unfit, sameKeyed, tooDeep}
+use Rattle.insertion.proofs.Steps.{noNodes, row-step, equal-key, has-equal}
+use Rattle.keys.specs.KeyWords.{Held}
 use Rattle.keys.specs.declared.KeyWords.{KeyWords}
-use Rattle.placing.specs.Words.{ArrayIs, GapBounds, BeforeIs, carriers, Walks, keyAmong}
-use Rattle.placing.specs.PairTexts.{ArePair}
+use Rattle.placing.specs.Words.{arrayWords, GapBounds, gapWords, pairNode, carriers, Walks, keyAmong}
+use Rattle.placing.specs.PairTexts.{pairWords}
+use Rattle.placing.specs.Locating.{spotFor}
 use Rattle.placing.specs.Placing.{Given}
-use Rattle.placing.proofs.PairParts.{upto}
+use Rattle.placing.proofs.WordLaws.{ArrayIs, array-none, BeforeIs, gap-none}
+use Rattle.placing.proofs.TextLaws.{ArePair, key-held, no-pair}
 use Rattle.placing.proofs.SiteWords as words
 
 module _ {s t : List ℕ} {n : ℕ} (g : Given s t n) where
@@ -38,24 +43,27 @@ module _ {s t : List ℕ} {n : ℕ} (g : Given s t n) where
       omega (arith, g .counted, ap length (g .table), length-append (flat rows) (g .rest), flat-length rows, tableOf-length (g .value))
 
   module _ (node place : ℕ) (key value : List ℕ) where
-    abbrev pub RefusedWith : ℕ → Type 0
-    RefusedWith c = (room : ℕ) → insertBytes (capacityOf t) room s node place key value ≡ refused c 0
+    abbrev pub RefusedWith : (code at : ℕ) → Type 0
+    RefusedWith c p = refused c p ≡ spotFor (capacityOf t) s node place key value
 
-    refuses : (c : ℕ) → ((room : ℕ) → RefusedRow (capacityOf t) s node place key value room c 0) → RefusedWith c
-    refuses c f room = row-refused (capacityOf t) s node place key value room c 0 (f room)
+    refuses : (c p : ℕ) → StepRow (capacityOf t) s node place key value c p → RefusedWith c p
+    unfolding spotFor
+    refuses c p r = sym (rw (row-step (capacityOf t) s node place key value c p r))
 
     -- ---- 11
 
     tag-is : node < n → nodeAt (tableOf (g .value)) node .tag ≡ tag Kind.array → wordAt t node tagWord ≡ tag Kind.array
     tag-is h e = words.word-of (g .value) t (g .rest) (g .table) node 0 (omega (arith, g .counted)) (omega arith) ∙ e
 
-    pub refuses-11 : (node < n → wordAt t node tagWord ≡ tag Kind.array → ⊥) → RefusedWith 11
-    refuses-11 f = refuses 11 (λ room. noArray (g .value) (g .plan) (λ h e. let k : node < n = omega (arith, g .counted) in f k (tag-is k e)))
+    pub refuses-11 : {c p : ℕ} → refused c p ≡ arrayWords t n node → RefusedWith c p
+    refuses-11 e =
+        let a = array-none t n node e in
+        ap₂ refused (a .0) (a .1) ∙ refuses 11 0 (noArray (g .value) (g .plan) (λ h f. let k : node < n = omega (arith, g .counted) in a .2 k (tag-is k f)))
 
     -- the array, with its count and its ordinal
     pub record Here (m o : ℕ) : Type 0 where
       pub site : Site
-      pub at : arrayAt node (g .value) ≡ ok site
+      pub at : WayTo (g .value) node (site .path) (site .pairs)
       pub counted : m ≡ count (site .pairs)
       pub numbered : o ≡ in-plan (g .value) node site at .ordinal
 
@@ -68,12 +76,14 @@ module _ {s t : List ℕ} {n : ℕ} (g : Given s t n) where
             ∙ ap (λ (x : Node). x .tag) e
 
         by : (x : Answer Site) → arrayAt node (g .value) ≡ x → Here m o
-        by (ok z) e = record {
-          site = z;
-          at = e;
-          counted = a .counted ∙ words.array-count (g .value) t (g .rest) (g .table) node z e;
-          numbered = a .numbered ∙ words.array-ordinal (g .value) t (g .rest) (g .table) node z e;
-        }
+        by (ok z) e =
+            let way = locates (g .value) node z e in
+            record {
+              site = z;
+              at = way;
+              counted = a .counted ∙ words.array-count (g .value) t (g .rest) (g .table) node z way;
+              numbered = a .numbered ∙ words.array-ordinal (g .value) t (g .rest) (g .table) node z way;
+            }
         by (refused c q) e =
             absurd (no-array (g .value) node c q e .2 (omega (arith, g .counted, a .inside)) (sym (row (nodeAt (tableOf (g .value)) node) refl) ∙ a .tagged))
 
@@ -92,8 +102,10 @@ module _ {s t : List ℕ} {n : ℕ} {g : Given s t n} {node place : ℕ} {key va
       (subst (λ (c : ℕ). GapBounds t node (count (h .site .pairs)) c place) (sym (h .numbered))
       (words.gap-bounds v t (g .rest) (g .table) node (h .site) (h .at) place))
 
-  pub refuses-12 : m < place → RefusedWith g node place key value 12
-  refuses-12 f = refuses g node place key value 12 (λ room. noPlace v (h .site) at-array (omega (arith, f, h .counted)))
+  pub refuses-12 : {c p : ℕ} → refused c p ≡ gapWords t node m o place → RefusedWith g node place key value c p
+  refuses-12 e =
+      let a = gap-none t node m o place e in
+      ap₂ refused (a .0) (a .1) ∙ refuses g node place key value 12 0 (noPlace v (h .site) at-array (omega (arith, a .2, h .counted)))
 
   module _ {gap new : ℕ} (b : BeforeIs t node m o place gap new) where
     pub within : place ≤ count (h .site .pairs)
@@ -104,9 +116,8 @@ module _ {s t : List ℕ} {n : ℕ} {g : Given s t n} {node place : ℕ} {key va
 
     -- ---- 13
 
-    pub refuses-13 : ((k : Key) (x : Scalar) → KeyFits k → key ≡ writeKey k [] → ScalarFits x → value ≡ writeScalar x [] → ⊥)
-        → RefusedWith g node place key value 13
-    refuses-13 f = refuses g node place key value 13 (λ room. unfit v (h .site) at-place f)
+    pub refuses-13 : refused 13 0 ≡ pairWords key value → RefusedWith g node place key value 13 0
+    refuses-13 e = refuses g node place key value 13 0 (unfit v (h .site) at-place (no-pair key value e))
 
 -- the array, the gap in it and the texts of the pair
 pub record GapFound {s t : List ℕ} {n : ℕ} (g : Given s t n) (node place : ℕ) (key value : List ℕ) (m o gap new : ℕ) (w : KeyWords) : Type 0 where
@@ -136,7 +147,7 @@ module _ {s t : List ℕ} {n : ℕ} {g : Given s t n} {node place : ℕ} {key va
 
   pub new-is : new ≡ newOrdinal (site .path) place (g .value)
   new-is =
-      f .spot .next ∙ ap₂ (λ (c e : ℕ). c + carriers t (node + 1) (e - (node + 1)) + 1) (f .array .numbered) (f .spot .behind)
+      f .spot .next ∙ ap (λ (c : ℕ). c + carriers t (node + 1) (pairNode t (node + 1) place - (node + 1)) + 1) (f .array .numbered)
       ∙ words.gap-ordinal (g .value) t (g .rest) (g .table) node site (f .array .at) place (within (f .array) (f .spot))
 
   with-pair : WithPair (capacityOf t) s node place key value (g .value) site k x
@@ -153,15 +164,18 @@ module _ {s t : List ℕ} {n : ℕ} {g : Given s t n} {node place : ℕ} {key va
   pub walks : Walks t (node + 1) m
   walks = subst (Walks t (node + 1)) (sym (f .array .counted)) (words.keys-walk (g .value) t (g .rest) (g .table) node site (f .array .at))
 
+  held : Held key k w
+  held = subst (Held key k) (sym (f .pair .keyed .words)) (key-held key k (f .pair .keyed .written) (f .pair .keyed .fits))
+
   among : keyAmong s key w t (node + 1) m ≡ hasKey k (keys qs)
   among =
       ap (keyAmong s key w t (node + 1)) (f .array .counted)
-      ∙ words.key-among (g .value) t (g .rest) (g .table) node site (f .array .at) (g .plan .fits .valid) s (g .plan .printed) key w k (f .pair .keyed .held)
+      ∙ words.key-among (g .value) t (g .rest) (g .table) node site (f .array .at) (g .plan .fits .valid) s (g .plan .printed) key w k held
 
-  pub refuses-9 : not (keyAmong s key w t (node + 1) m) ≡ false → RefusedWith g node place key value 9
+  pub refuses-9 : not (keyAmong s key w t (node + 1) m) ≡ false → RefusedWith g node place key value 9 0
   refuses-9 e =
       let q = equal-key k (keys qs) (T-of (sym among ∙ not-false _ e)) in
-      refuses g node place key value 9 (λ room. sameKeyed (g .value) site k x with-pair (q .0) (q .1) (q .2))
+      refuses g node place key value 9 0 (sameKeyed (g .value) site k x with-pair (q .0) (q .1) (q .2))
 
   abbrev pub Fresh : Type 0
   Fresh = not (keyAmong s key w t (node + 1) m) ≡ true
@@ -173,10 +187,10 @@ module _ {s t : List ℕ} {n : ℕ} {g : Given s t n} {node place : ℕ} {key va
     -- ---- 8
 
     module _ {around : ℕ} (a : around ≡ length (site .path)) where
-      pub refuses-8 : ltb (suc around) depthLimit ≡ false → RefusedWith g node place key value 8
+      pub refuses-8 : ltb (suc around) depthLimit ≡ false → RefusedWith g node place key value 8 0
       refuses-8 d =
           let deep = site-depth (g .value) node site (g .plan .fits .valid) (f .array .at) in
-          refuses g node place key value 8 (λ room. tooDeep (g .value) site k x with-new-key (omega (arith, a, ltb-false (suc around) depthLimit d, deep)))
+          refuses g node place key value 8 0 (tooDeep (g .value) site k x with-new-key (omega (arith, a, ltb-false (suc around) depthLimit d, deep)))
 
       module _ (d : ltb (suc around) depthLimit ≡ true) where
         with-depth : WithDepth (capacityOf t) s node place key value (g .value) site k x
@@ -184,10 +198,9 @@ module _ {s t : List ℕ} {n : ℕ} {g : Given s t n} {node place : ℕ} {key va
 
         -- ---- 7
 
-        pub refuses-7 : leb (n + 2) (capacityOf t) ≡ false → RefusedWith g node place key value 7
+        pub refuses-7 : leb (n + 2) (capacityOf t) ≡ false → RefusedWith g node place key value 7 0
         refuses-7 r =
-            refuses g node place key value 7
-            (λ room. noNodes (g .value) site k x with-depth (omega (arith, g .counted, leb-false (n + 2) (capacityOf t) r)))
+            refuses g node place key value 7 0 (noNodes (g .value) site k x with-depth (omega (arith, g .counted, leb-false (n + 2) (capacityOf t) r)))
 
         pub with-nodes : leb (n + 2) (capacityOf t) ≡ true
             → WithNodes (capacityOf t) s node place key value (g .value) (f .array .site) (f .pair .keyed .key) (f .pair .scalar)

@@ -9,8 +9,9 @@ use lib.Seq.{drop-cons}
 use Rattle.format.specs.Kind.{mayBeKey}
 use Rattle.format.specs.Syntax.{null, bool, int, float, string, intKey, stringKey, Key, Scalar, writeKey, writeScalar, writeNumber}
 use Rattle.format.specs.Fits.{KeyFits, ScalarFits}
-use Rattle.format.specs.Answer.{ok}
-use Rattle.format.proofs.Answers.{ok-same, not-both}
+use Rattle.format.specs.Answer.{Answer, ok, refused}
+use Rattle.format.specs.Writing.{keyOf, scalarOf}
+use Rattle.format.proofs.Answers.{ok-same, not-both, bind-ok}
 use Rattle.format.proofs.Fronts.{number-length, quoted-length}
 use Rattle.format.proofs.Places.{quoted-text}
 use Rattle.scanner.specs.declared.Text.{Text}
@@ -18,10 +19,12 @@ use Rattle.scanner.specs.declared.Scan.{Scan}
 use Rattle.scanner.specs.Scans.{scalarBehind, scalarTold, Found, Scans}
 use Rattle.scanner.proofs.Numbers.{found-of, unfit-of}
 use Rattle.scanner.proofs.Printed.{scalar-tagged, scalar-printed}
+use Rattle.keys.specs.KeyWords.{Held}
 use Rattle.keys.specs.declared.KeyWords.{KeyWords}
 use Rattle.tokens.specs.Tokens.{keyScalar}
 use Rattle.tokens.proofs.TokenRead.{scalar-read}
-use Rattle.placing.specs.PairTexts.{IsScalar, Exact, IsKey, ExactKey, ArePair}
+use Rattle.insertion.proofs.PairTexts.{key-of, scalar-of, key-text, scalar-text, texts-refused}
+use Rattle.placing.specs.PairTexts.{IsScalar, Exact, textWords, IsKey, ExactKey, pairWords}
 
 -- ---- exactly one
 
@@ -86,35 +89,30 @@ module _ (s : List ℕ) where
   pub no-key-tag : mayBeKey (getD s 0 0) ≡ false → ExactKey s (Scan.Not 13)
   no-key-tag e k f t = true≢false (sym (key-tag k t) ∙ e)
 
+  abbrev content : Text → ℕ
+  content u = u .content
+
+  abbrev size : Text → ℕ
+  size u = u .size
+
+  same-words : (x : Text) (k : Key) → s ≡ writeKey k [] → x .content ≡ textWords k .content → x .size ≡ textWords k .size
+      → record { tag = getD s 0 0; content = x .content; size = x .size } ≡ textWords k
+  same-words x (intKey y) t c z = λ i. record { tag = ap (λ (u : List ℕ). getD u 0 0) t i; content = c i; size = z i }
+  same-words x (stringKey q) t c z = λ i. record { tag = ap (λ (u : List ℕ). getD u 0 0) t i; content = c i; size = z i }
+
   -- by what the scan for a scalar found
   is-key : (x : Text) (y : Scalar) → mayBeKey (getD s 0 0) ≡ true → s ≡ writeScalar y [] → ScalarFits y → x ≡ scalarTold 1 y (x .next)
       → IsKey s (record { tag = getD s 0 0; content = x .content; size = x .size })
   is-key x null m t f e = absurd (true≢false (sym m ∙ ap (λ (u : List ℕ). mayBeKey (getD u 0 0)) t))
   is-key x (bool b) m t f e = absurd (true≢false (sym m ∙ ap (λ (u : List ℕ). mayBeKey (getD u 0 0)) t))
   is-key x (float g) m t f e = absurd (true≢false (sym m ∙ ap (λ (u : List ℕ). mayBeKey (getD u 0 0)) t))
-  is-key x (int y) m t f e = record {
-    key = intKey y;
+  is-key x (int y) m t f e = record { key = intKey y; written = t; fits = f; words = same-words x (intKey y) t (ap content e) (ap size e) }
+  is-key x (string q) m t f e = record {
+    key = stringKey q;
     written = t;
     fits = f;
-    held = record { is = ap (λ (u : List ℕ). getD u 0 0) t; says = sym (ap (λ (u : Text). u .content) e); fits = f };
+    words = same-words x (stringKey q) t (ap content e ∙ omega arith) (ap size e);
   }
-  is-key x (string q) m t f e =
-      let c : x .content ≡ 0 + 4 + length (writeNumber (q .spelling) (length (q .text)) []) = ap (λ (u : Text). u .content) e ∙ omega arith in
-      let z : x .size ≡ length (q .text) = ap (λ (u : Text). u .size) e in
-      let stands = quoted-text s 0 115 q (59 ∷ []) t in
-      record {
-        key = stringKey q;
-        written = t;
-        fits = f;
-        held = record {
-          is = ap (λ (u : List ℕ). getD u 0 0) t;
-          says = (
-            sym (ap (λ (n : ℕ). take n (drop (x .content) s)) z ∙ ap (λ (n : ℕ). take (length (q .text)) (drop n s)) c ∙ stands),
-            omega (arith, c, z, ap length t, quoted-length q (59 ∷ []), number-length (q .spelling) (length (q .text)) []),
-          );
-          fits = f;
-        };
-      }
 
   pub exact-key : (r : Scan) → mayBeKey (getD s 0 0) ≡ true → Exact s r → ExactKey s r
   exact-key (Scan.Is x) m g = is-key x (g .scalar) m (g .written) (g .fits) (g .tells)
@@ -127,5 +125,53 @@ key-some s g = go (g .key) (g .written)
     go (intKey x) t = omega (arith, ap length t)
     go (stringKey q) t = omega (arith, ap length t)
 
-pub are-pair : (key value : List ℕ) (w : KeyWords) → IsKey key w → (x : Text) → IsScalar value x → ArePair key value w
-are-pair key value w k x y = record { keyed = k; scalar = y .scalar; written = y .written; fits = y .fits }
+-- ---- the key's words say it
+
+pub key-held : (s : List ℕ) (k : Key) → s ≡ writeKey k [] → KeyFits k → Held s k (textWords k)
+key-held s (intKey y) t f = record { is = refl; says = refl; fits = f }
+key-held s (stringKey q) t f =
+    let stands = quoted-text s 0 115 q (59 ∷ []) t in
+    record {
+      is = refl;
+      says = (sym stands, omega (arith, ap length t, quoted-length q (59 ∷ []), number-length (q .spelling) (length (q .text)) []));
+      fits = f;
+    }
+
+-- ---- both texts
+
+pub record ArePair (key value : List ℕ) (w : KeyWords) : Type 0 where
+  pub keyed : IsKey key w
+  pub scalar : Scalar
+  pub written : value ≡ writeScalar scalar []
+  pub fits : ScalarFits scalar
+
+module _ (key value : List ℕ) where
+  pub texts-fit : {w : KeyWords} {x : Text} → IsKey key w → IsScalar value x → ok w ≡ pairWords key value
+  unfolding pairWords
+  texts-fit {w} k y =
+      sym (rw (ap keyOf (k .written) ∙ key-text (k .key) (k .fits), ap scalarOf (y .written) ∙ scalar-text (y .scalar) (y .fits))
+      (ap {B = Answer KeyWords} (λ u. ok u) (sym (k .words))))
+
+  pub texts-unfit : ((k : Key) (x : Scalar) → KeyFits k → key ≡ writeKey k [] → ScalarFits x → value ≡ writeScalar x [] → ⊥) → refused 13 0 ≡ pairWords key value
+  unfolding pairWords
+  texts-unfit f = sym (texts-refused key value _ f)
+
+  pub are-pair : {w : KeyWords} → ok w ≡ pairWords key value → ArePair key value w
+  unfolding pairWords
+  are-pair {w} e =
+      let a = bind-ok (keyOf key) _ w (sym e) in
+      let b = bind-ok (scalarOf value) _ w (a .2) in
+      let k = key-of key (a .0) (a .1) in
+      let x = scalar-of value (b .0) (b .1) in
+      record {
+        keyed = record { key = a .0; written = k .0; fits = k .1; words = sym (ok-same (b .2)) };
+        scalar = b .0;
+        written = x .0;
+        fits = x .1;
+      }
+
+  -- their refusal
+  pub no-pair : {c p : ℕ} → refused c p ≡ pairWords key value → (k : Key) (x : Scalar) → KeyFits k → key ≡ writeKey k [] → ScalarFits x
+      → value ≡ writeScalar x [] → ⊥
+  unfolding pairWords
+  no-pair e k x f t g u = not-both {a = textWords k} (e ∙ rw (ap keyOf t ∙ key-text k f, ap scalarOf u ∙ scalar-text x g))

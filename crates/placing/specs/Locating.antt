@@ -1,29 +1,71 @@
 -- WHAT PLACING PROMISES. The other files here say what its private functions promise each other; nothing public rests on them.
 use mathlib.Core.Path.{_≡_}
-use mathlib.Core.Bool.{true}
-use mathlib.Core.List.{List}
-use Prim.Native.Nat.{ℕ, _≤_}
+use mathlib.Core.List.{List, [], _∷_}
+use Prim.Native.Nat.{ℕ, zero, suc}
 use lib.ListN.{length}
-use Rattle.format.specs.Limits.{sourceLimit}
-use Rattle.format.specs.Answer.{refused}
+use Rattle.format.specs.Tree.{leaf, ref, branch, none, pair, TreePath, count}
+use Rattle.format.specs.Syntax.{Value, Values, writeKey, write, writePairs}
+use Rattle.format.specs.Answer.{Answer, ok, refused, _>>=_}
 use Rattle.format.specs.Reading.{capacityOf, cleared, tableAfter}
-use Rattle.format.specs.Writing.{withRoom, insertBytes}
+use Rattle.format.specs.Edit.{upto, newOrdinal}
+use Rattle.format.specs.Writing.{Insertion, insertionOf}
+use Rattle.tokens.specs.Tokens.{opening, writeToken}
 use Rattle.rewriting.specs.declared.inserted.Spot.{Spot}
-use Rattle.rewriting.specs.Edited.{stands, insertedText, Parted}
 use Rattle.placing.specs.declared.Placing.{Placing}
 
--- no refusal before 14: the table is that of the plan given, which is no longer than a plan may be, and the bytes to write are known, "the old
--- ones with three changes". Rewriting writes them, for an array's head stands at the spot, and tokens fill the source around it and the gap
-pub record Located (s : List ℕ) (node place : ℕ) (key value t t′ : List ℕ) (p : Spot) : Type 0 where
-  pub table : t′ ≡ tableAfter s t
-  pub stands : stands (length s) p ≡ true
-  pub parted : Parted s p
-  pub short : length s ≤ sourceLimit
-  pub bytes : (room : ℕ) → insertBytes (capacityOf t) room s node place key value ≡ withRoom room (insertedText s key value p)
+-- the paper's number and values for each case of the enum: where the pair goes; "A refusal returns its number and a position"
+abbrev pub placingAnswer : Placing → Answer Spot
+placingAnswer (Placing.At p) = ok p
+placingAnswer (Placing.Refused code at) = refused code at
 
--- "Inserting: reading, 11, 12, 13, 9 (new key present), 8 (array at depth 64), 7 (two more nodes), 14": all before 14, so whatever room the
--- output has. "A refusal returns its number and a position", and "makes every word of the table zero"
-abbrev pub Locates : (s : List ℕ) (node place : ℕ) (key value t t′ : List ℕ) → Placing → Type 0
-Locates s node place key value t t′ (Placing.At p) = Located s node place key value t t′ p
-Locates s node place key value t t′ (Placing.Refused code at) =
-    (t′ ≡ cleared t) × ((room : ℕ) → insertBytes (capacityOf t) room s node place key value ≡ refused code at)
+-- ---- what stands before: the bytes of a plan up to a point of the container at a path, those of that container being given by `part`
+
+-- of pairs: those before a place, and a part of the value there
+abbrev pub beforeIn : (place : ℕ) → (part : Value → List ℕ) → Values → List ℕ
+beforeIn q part none = []
+beforeIn zero part (pair k v ps) = writeKey k (part v)
+beforeIn (suc q) part (pair k v ps) = writeKey k (write v (beforeIn q part ps))
+
+abbrev pub before : (part : Value → List ℕ) → TreePath → Value → List ℕ
+before part [] v = part v
+before part (q ∷ a) (leaf x) = []
+before part (q ∷ a) (ref r) = []
+before part (q ∷ a) (branch h ps) = writeToken (opening h (count ps)) (beforeIn q (before part a) ps)
+
+-- none of the container's bytes: up to its tag
+abbrev pub nothing : Value → List ℕ
+nothing v = []
+
+-- its head, and its pairs before a place
+abbrev pub pairsBefore : (place : ℕ) → Value → List ℕ
+pairsBefore p (leaf x) = []
+pairsBefore p (ref r) = []
+pairsBefore p (branch h ps) = writeToken (opening h (count ps)) (writePairs (upto p ps) [])
+
+-- "put in before the key that had that place, or before the array's `}` if the place is the count": the positions of the array's tag, of its first pair and
+-- of the gap, each the length of what stands before; the array's count; and k
+abbrev pub spotOf : (place : ℕ) → Insertion → Spot
+spotOf p i = record {
+  at = length (before nothing (i .site .path) (i .plan));
+  inside = length (before (pairsBefore 0) (i .site .path) (i .plan));
+  gap = length (before (pairsBefore p) (i .site .path) (i .plan));
+  count = count (i .site .pairs);
+  ordinal = newOrdinal (i .site .path) p (i .plan);
+}
+
+-- ---- the answer and the table
+
+-- "Inserting: reading, 11, 12, 13, 9 (new key present), 8 (array at depth 64), 7 (two more nodes), 14": all before 14
+unfoldable pub spotFor : (capacity : ℕ) → (source : List ℕ) → (node place : ℕ) → (key value : List ℕ) → Answer Spot
+spotFor capacity source node place key value = do
+  i ← insertionOf capacity source node place key value
+  ok (spotOf place i)
+
+-- the table is that of the plan given; a refusal "makes every word of the table zero"
+abbrev pub tableLocated : Answer Spot → (source table : List ℕ) → List ℕ
+tableLocated (ok p) source t = tableAfter source t
+tableLocated (refused n p) source t = cleared t
+
+pub record Locates (s : List ℕ) (node place : ℕ) (key value t t′ : List ℕ) (r : Placing) : Type 0 where
+  pub answer : placingAnswer r ≡ spotFor (capacityOf t) s node place key value
+  pub table : t′ ≡ tableLocated (spotFor (capacityOf t) s node place key value) s t

@@ -5,10 +5,12 @@ use Rattle.format.specs.Syntax.{Key, Scalar, writeKey, writeScalar}
 use Rattle.format.specs.Fits.{KeyFits, ScalarFits}
 use Prim.Native.Nat.{ℕ}
 use lib.ListN.{getD}
+use Rattle.format.specs.Answer.{Answer, ok, refused, _>>=_}
+use Rattle.format.specs.Table.{keyNode}
+use Rattle.format.specs.Writing.{keyOf, scalarOf}
 use Rattle.scanner.specs.Scans.{scalarTold}
 use Rattle.scanner.specs.declared.Text.{Text}
 use Rattle.scanner.specs.declared.Scan.{Scan}
-use Rattle.keys.specs.KeyWords.{Held}
 use Rattle.keys.specs.declared.KeyWords.{KeyWords}
 use Rattle.placing.specs.declared.texts.Texts.{Texts}
 
@@ -23,23 +25,31 @@ abbrev pub Exact : List ℕ → Scan → Type 0
 Exact s (Scan.Is x) = IsScalar s x
 Exact s (Scan.Not c) = (y : Scalar) → ScalarFits y → s ≡ writeScalar y [] → ⊥
 
+-- words 0, 2 and 3 of the node that a key has whose tag stands at 0
+abbrev pub textWords : Key → KeyWords
+textWords k = record { tag = keyNode 0 0 k .tag; content = keyNode 0 0 k .content; size = keyNode 0 0 k .size }
+
 -- exactly one key, and its words
 pub record IsKey (s : List ℕ) (w : KeyWords) : Type 0 where
   pub key : Key
   pub written : s ≡ writeKey key []
   pub fits : KeyFits key
-  pub held : Held s key w
+  pub words : w ≡ textWords key
 
 abbrev pub ExactKey : List ℕ → Scan → Type 0
 ExactKey s (Scan.Is x) = IsKey s (record { tag = getD s 0 0; content = x .content; size = x .size })
 ExactKey s (Scan.Not c) = (k : Key) → KeyFits k → s ≡ writeKey k [] → ⊥
 
-pub record ArePair (key value : List ℕ) (w : KeyWords) : Type 0 where
-  pub keyed : IsKey key w
-  pub scalar : Scalar
-  pub written : value ≡ writeScalar scalar []
-  pub fits : ScalarFits scalar
+-- ---- 13
 
-abbrev pub TextsAre : (key value : List ℕ) → Texts → Type 0
-TextsAre key value (Texts.Fit w) = ArePair key value w
-TextsAre key value Texts.Unfit = (k : Key) (x : Scalar) → KeyFits k → key ≡ writeKey k [] → ScalarFits x → value ≡ writeScalar x [] → ⊥
+-- the paper's number and values for each case of the enum: "key or value text unfit"
+abbrev pub textsAnswer : Texts → Answer KeyWords
+textsAnswer (Texts.Fit w) = ok w
+textsAnswer Texts.Unfit = refused 13 0
+
+-- both texts judged in one step: the words of the key
+unfoldable pub pairWords : (key value : List ℕ) → Answer KeyWords
+pairWords key value = do
+  k ← keyOf key
+  _ ← scalarOf value
+  ok (textWords k)

@@ -1,6 +1,5 @@
 -- A pair's place in the bytes of a plan that was read.
 use mathlib.Core.Path.{_≡_}
-use mathlib.Core.Bool.{true}
 use mathlib.Core.List.{List, _∷_, _++_}
 use Prim.Native.Nat.{ℕ, _≤_}
 use lib.ListN.{length, drop}
@@ -10,15 +9,12 @@ use Rattle.format.specs.Tree.{nodes}
 use Rattle.format.specs.Syntax.{Spelling, Value, writeNumber}
 use Rattle.format.specs.Limits.{numberLimit}
 use Rattle.format.specs.Fits.{IsPlan}
-use Rattle.format.specs.Answer.{refused}
 use Rattle.format.specs.Table.{flat, tableOf}
 use Rattle.format.specs.Reading.{capacityOf}
-use Rattle.format.specs.Writing.{withRoom, insertBytes}
-use Rattle.reader.specs.declared.Reading.{Reading}
 use Rattle.rewriting.specs.declared.inserted.Spot.{Spot}
-use Rattle.rewriting.specs.Edited.{stands, insertedText, Parted}
 use Rattle.placing.specs.declared.Placing.{Placing}
 use Rattle.placing.specs.Passing.{Ahead}
+use Rattle.placing.specs.Locating.{placingAnswer, spotFor}
 
 -- ---- the plan that was read, with its table
 
@@ -59,17 +55,5 @@ pub record SpotIs (s head rest : List ℕ) (at count ordinal : ℕ) (r : Spot) :
 
 -- ---- the steps between reading and writing
 
-pub record SpotFound (s t : List ℕ) (node place : ℕ) (key value : List ℕ) (p : Spot) : Type 0 where
-  pub stands : stands (length s) p ≡ true
-  pub parted : Parted s p
-  pub bytes : (room : ℕ) → insertBytes (capacityOf t) room s node place key value ≡ withRoom room (insertedText s key value p)
-
 abbrev pub FindsSpot : (s t : List ℕ) (node place : ℕ) (key value : List ℕ) → Placing → Type 0
-FindsSpot s t node place key value (Placing.At p) = SpotFound s t node place key value p
-FindsSpot s t node place key value (Placing.Refused code at) = (room : ℕ) → insertBytes (capacityOf t) room s node place key value ≡ refused code at
-
--- ---- reading's refusal, as it stands
-
-abbrev pub placingOf : Reading → Placing
-placingOf (Reading.Accepted nodes ordinals) = Placing.Refused 0 0
-placingOf (Reading.Refused code at) = Placing.Refused code at
+FindsSpot s t node place key value r = placingAnswer r ≡ spotFor (capacityOf t) s node place key value

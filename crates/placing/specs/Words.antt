@@ -1,12 +1,13 @@
 -- What inserting takes from the table of the plan that was read, by its words.
 use mathlib.Core.Path.{_≡_}
 use mathlib.Core.List.{List}
-use mathlib.Core.Bool.{Bool, false, not, _||_}
+use mathlib.Core.Bool.{Bool, false, not, _&&_, _||_}
 use Prim.Native.Nat.{ℕ, zero, suc, _+_, _-_, _*_, _≤_, _<_}
-use lib.Dec.{eqb}
+use lib.Dec.{eqb, ltb, leb}
 use lib.ListN.{length}
 use Rattle.format.specs.Kind.{Kind, tag}
 use Rattle.format.specs.Tree.{one}
+use Rattle.format.specs.Answer.{Answer, ok, refused, _>>=_, require}
 use Rattle.format.specs.Table.{width, wordAt, tagWord, ordinalWord, linkWord, pairEnd}
 use Rattle.keys.specs.KeyWords.{keyWordsIn, sameWords}
 use Rattle.keys.specs.declared.KeyWords.{KeyWords}
@@ -15,15 +16,21 @@ use Rattle.placing.specs.declared.target.Gap.{Gap}
 
 -- ---- 11
 
-pub record ArrayIs (t : List ℕ) (nodes node count ordinal : ℕ) : Type 0 where
-  pub inside : node < nodes
-  pub tagged : wordAt t node tagWord ≡ tag Kind.array
-  pub counted : count ≡ wordAt t node linkWord
-  pub numbered : ordinal ≡ wordAt t node ordinalWord
+-- an array's count of pairs, and its ordinal
+pub record ArrayWords : Type 0 where
+  pub count : ℕ
+  pub ordinal : ℕ
 
-abbrev pub TargetIs : List ℕ → (nodes node : ℕ) → Target → Type 0
-TargetIs t n i (Target.Array count ordinal) = ArrayIs t n i count ordinal
-TargetIs t n i Target.Other = i < n → wordAt t i tagWord ≡ tag Kind.array → ⊥
+-- the paper's number and values for each case of the enum: "index names no `a` node"
+abbrev pub targetAnswer : Target → Answer ArrayWords
+targetAnswer (Target.Array count ordinal) = ok (record { count = count; ordinal = ordinal })
+targetAnswer Target.Other = refused 11 0
+
+-- the array at a node of so many
+unfoldable pub arrayWords : List ℕ → (nodes node : ℕ) → Answer ArrayWords
+arrayWords t n i = do
+  _ ← require (ltb i n && eqb (wordAt t i tagWord) (tag Kind.array)) 11 0
+  ok (record { count = wordAt t i linkWord; ordinal = wordAt t i ordinalWord })
 
 -- ---- 12
 
@@ -51,14 +58,21 @@ pub record GapBounds (t : List ℕ) (node count ordinal place : ℕ) : Type 0 wh
   pub low : ordinal ≤ node + 1
   pub inside : node < length t
 
-pub record BeforeIs (t : List ℕ) (node count ordinal place gap new : ℕ) : Type 0 where
-  pub within : place ≤ count
-  pub behind : gap ≡ pairNode t (node + 1) place
-  pub next : new ≡ ordinal + carriers t (node + 1) (gap - (node + 1)) + 1
+-- the node of the key before which the new pair goes, or the one behind the array, and the ordinal that the new value takes
+pub record GapWords : Type 0 where
+  pub node : ℕ
+  pub ordinal : ℕ
 
-abbrev pub GapIs : List ℕ → (node count ordinal place : ℕ) → Gap → Type 0
-GapIs t i n o p (Gap.Before gap new) = BeforeIs t i n o p gap new
-GapIs t i n o p Gap.Beyond = n < p
+-- the paper's number and values for each case of the enum: "place above the array's count"
+abbrev pub gapAnswer : Gap → Answer GapWords
+gapAnswer (Gap.Before node ordinal) = ok (record { node = node; ordinal = ordinal })
+gapAnswer Gap.Beyond = refused 12 0
+
+-- the gap at a place of the array at a node, whose count and ordinal are known
+unfoldable pub gapWords : List ℕ → (node count ordinal place : ℕ) → Answer GapWords
+gapWords t i n o p = do
+  _ ← require (leb p n) 12 0
+  ok (record { node = pairNode t (i + 1) p; ordinal = o + carriers t (i + 1) (pairNode t (i + 1) p - (i + 1)) + 1 })
 
 -- ---- 9
 

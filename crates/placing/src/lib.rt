@@ -6,8 +6,9 @@ use crate::spot::find_spot;
 use reader::Reading;
 use rewriting::inserted::Spot;
 ghost use mathlib.Core.Path.{_≡_};
+ghost use Rattle.format.specs.Answer.{codeOf, positionOf};
+ghost use Rattle.reader.specs.Promise.{readingAnswer};
 ghost use Rattle.placing.specs.Locating.{Locates};
-ghost use Rattle.placing.specs.Placing.{placingOf};
 
 mod pass;
 mod spot;
@@ -21,16 +22,29 @@ pub enum Placing {
     Refused { code: u8, at: usize },
 }
 
-// What reading answers, as an answer of placing: a refusal as it stands. An acceptance is not asked for.
-fn as_placing(reading: Reading) -> Placing
-    ensures { λ r. ⌜ r ≡ placingOf reading ⌝ }
+// The number of reading's refusal; 0 for an acceptance, since no refusal has number 0.
+fn code_of(reading: Reading) -> u8
+    ensures { λ r. ⌜ r ≡ codeOf (readingAnswer reading) ⌝ }
 {
     match reading {
         Reading::Accepted {
             nodes: _,
             ordinals: _,
-        } => Placing::Refused { code: 0, at: 0 },
-        Reading::Refused { code, at } => Placing::Refused { code, at },
+        } => 0,
+        Reading::Refused { code, at: _ } => code,
+    }
+}
+
+// Its position; 0 for an acceptance.
+fn position_of(reading: Reading) -> usize
+    ensures { λ r. ⌜ r ≡ positionOf (readingAnswer reading) ⌝ }
+{
+    match reading {
+        Reading::Accepted {
+            nodes: _,
+            ordinals: _,
+        } => 0,
+        Reading::Refused { code: _, at } => at,
     }
 }
 
@@ -48,7 +62,10 @@ pub fn locate(
 {
     let reading = reader::read(source, table);
     let Reading::Accepted { nodes, ordinals: _ } = reading else {
-        return as_placing(reading);
+        return Placing::Refused {
+            code: code_of(reading),
+            at: position_of(reading),
+        };
     };
     let placing = find_spot(source, table, nodes, array_node, pair_index, key, value);
     let Placing::At(_) = placing else {

@@ -11,6 +11,12 @@ use crate::target::array_at;
 use crate::target::gap_at;
 use crate::texts::Texts;
 use crate::texts::pair_texts;
+use format::codes::KEY_REPEATED;
+use format::codes::NO_ARRAY;
+use format::codes::NO_PLACE;
+use format::codes::PAIR_UNFIT;
+use format::codes::TABLE_FULL;
+use format::codes::TOO_DEEP;
 use format::table::WIDTH;
 use rewriting::inserted::Spot;
 use scanner::Scan;
@@ -61,29 +67,47 @@ pub(crate) fn find_spot(
 {
     let target = array_at(table, nodes, array_node);
     let Target::Array { count, ordinal } = target else {
-        return Placing::Refused { code: 11, at: 0 };
+        return Placing::Refused {
+            code: NO_ARRAY,
+            at: 0,
+        };
     };
     let gap = gap_at(table, array_node, count, ordinal, pair_index);
     let Gap::Before { node, ordinal: new } = gap else {
-        return Placing::Refused { code: 12, at: 0 };
+        return Placing::Refused {
+            code: NO_PLACE,
+            at: 0,
+        };
     };
     let fit = pair_texts(key, value);
     let Texts::Fit(words) = fit else {
-        return Placing::Refused { code: 13, at: 0 };
+        return Placing::Refused {
+            code: PAIR_UNFIT,
+            at: 0,
+        };
     };
     let first = array_node + 1;
     let fresh = new_key(source, table, first, count, key, words);
     let Check::Passed = fresh else {
-        return Placing::Refused { code: 9, at: 0 };
+        return Placing::Refused {
+            code: KEY_REPEATED,
+            at: 0,
+        };
     };
     let reached = pass(source, 0, array_node);
     let depth = shallow(reached.around);
     let Check::Passed = depth else {
-        return Placing::Refused { code: 8, at: 0 };
+        return Placing::Refused {
+            code: TOO_DEEP,
+            at: 0,
+        };
     };
     let room = two_more(nodes, table.len() / WIDTH);
     let Check::Passed = room else {
-        return Placing::Refused { code: 7, at: 0 };
+        return Placing::Refused {
+            code: TABLE_FULL,
+            at: 0,
+        };
     };
     Placing::At(spot_at(source, reached.at, node - first, count, new))
 }

@@ -8,7 +8,7 @@ ghost use mathlib.Core.Path.{_≡_};
 ghost use Prim.Native.Nat.{_+_, _*_, _≤_};
 ghost use lib.ListN.{length};
 ghost use Rattle.format.specs.Table.{width};
-ghost use Rattle.placing.specs.Words.{pairNode, carriers, TargetIs, Walkable, GapBounds, GapIs};
+ghost use Rattle.placing.specs.Words.{pairNode, carriers, targetAnswer, arrayWords, Walkable, GapBounds, gapAnswer, gapWords};
 
 // What stands at a node: an array with its count of pairs and its ordinal, or something else.
 pub enum Target {
@@ -26,7 +26,7 @@ pub enum Gap {
 // 11: "index names no `a` node".
 pub(crate) fn array_at(table: &[u64], nodes: usize, node: usize) -> Target
     requires { ⌜ nodes * width ≤ length (now table) ⌝ }
-    ensures { λ r. ⌜ TargetIs (now (table .entry)) nodes node r ⌝ }
+    ensures { λ r. ⌜ targetAnswer r ≡ arrayWords (now (table .entry)) nodes node ⌝ }
 {
     if nodes <= node {
         return Target::Other;
@@ -74,7 +74,7 @@ fn carried(table: &[u64], first: usize, count: usize) -> usize
 // 12: "place above the array's count". The new ordinal is the array's, and one, and one for each node between the array and the gap that carries one.
 pub(crate) fn gap_at(table: &[u64], node: usize, count: u64, ordinal: u64, place: usize) -> Gap
     requires { ⌜ GapBounds (now table) node count ordinal place ⌝ }
-    ensures { λ r. ⌜ GapIs (now (table .entry)) node count ordinal place r ⌝ }
+    ensures { λ r. ⌜ gapAnswer r ≡ gapWords (now (table .entry)) node count ordinal place ⌝ }
 {
     if count < place as u64 {
         return Gap::Beyond;

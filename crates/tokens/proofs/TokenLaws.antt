@@ -38,7 +38,7 @@ mutual
   tokens-write (ref n) r = refl
   tokens-write (branch h ps) r = ap (writeToken (opening h (count ps))) (tokens-append (tokensIn ps) (closing ∷ []) r ∙ tokensIn-write ps (byte "}" ∷ r))
 
-  tokensIn-write : (ps : Values) (r : List ℕ) → writeTokens (tokensIn ps) r ≡ writePairs ps r
+  pub tokensIn-write : (ps : Values) (r : List ℕ) → writeTokens (tokensIn ps) r ≡ writePairs ps r
   tokensIn-write none r = refl
   tokensIn-write (pair k v ps) r =
       ap (writeToken (scalar (keyScalar k))) (tokens-append (tokens v) (tokensIn ps) r ∙ tokens-write v (writeTokens (tokensIn ps) r)

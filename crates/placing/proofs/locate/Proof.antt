@@ -13,16 +13,20 @@ enum-known-reading c = search needs
 enum-told : tie.Need-enum-told
 enum-told c = search needs
 
-as-placing-requires : tie.Need-as-placing-requires
-as-placing-requires c κs = search needs
+code-of-requires : tie.Need-code-of-requires
+code-of-requires c κs = search needs
+
+position-of-requires : tie.Need-position-of-requires
+position-of-requires c κs = search needs
 
 same-length : tie.Need-same-length
 same-length c = search needs
 
 returns : tie.Need-returns
 returns c =
-    let read = c .before .before .before .before .before in
-    locating.locates-unread (read .read .ensures) _ _ _ _ (c .before .enum-told .given .1) (c .as-placing .ensures)
+    let told = c .before .before in
+    let read = told .before .before .before .before in
+    locating.locates-unread (read .read .ensures) _ _ _ _ (told .enum-told .given .1) (c .before .code-of .ensures) (c .position-of .ensures)
 
 find-spot-requires : tie.Need-find-spot-requires
 find-spot-requires c κs =
@@ -47,7 +51,7 @@ returns-2 c =
     let spotted = told .before .before in
     let known = spotted .before .before .before in
     let read = known .before .before .before .before in
-    locating.locates-refused (read .read .ensures) (known .reading .given .1) _ _ _ _ (spotted .find-spot .ensures) (told .enum-told3 .given .1)
+    locating.locates-refused (read .read .ensures) (known .reading .given .1) _ _ _ _ _ (spotted .find-spot .ensures) (told .enum-told3 .given .1)
     (c .before .before .clear .ensures)
 
 same-length-3 : tie.Need-same-length-3
@@ -58,7 +62,7 @@ returns-3 c =
     let spotted = c .before .before in
     let known = spotted .before .before .before in
     let read = known .before .before .before .before in
-    locating.locates-at (read .read .ensures) (known .reading .given .1) _ _ _ _ (spotted .find-spot .ensures) (c .enum-told2 .given .1)
+    locating.locates-at (read .read .ensures) (known .reading .given .1) _ _ _ _ _ (spotted .find-spot .ensures) (c .enum-told2 .given .1)
 
 pub locate-spec : {M : Type 1} → statement M
 locate-spec =
@@ -67,7 +71,8 @@ locate-spec =
     read-requires
     enum-known-reading
     enum-told
-    as-placing-requires
+    code-of-requires
+    position-of-requires
     same-length
     returns
     find-spot-requires

@@ -48,7 +48,7 @@ same-key-requires c κs = search needs
 returns : tie.Need-returns Inv-loop μ-loop
 returns c =
     let pair = pair-left (c .before) in
-    laws.walking-found _ _ _ _ (looped pair .loop .inv) (pair .loop-test .taken) (compared (c .before) ∙ c .if1 .taken)
+    laws.check-is 9 (laws.walking-found _ _ _ _ (looped pair .loop .inv) (pair .loop-test .taken) (compared (c .before) ∙ c .if1 .taken))
 
 mul-node : tie.Need-mul-node Inv-loop μ-loop
 mul-node c = omega (arith, pair-inside (c .before .before .before))
@@ -74,7 +74,7 @@ loop-again c =
     laws.walking-more _ _ _ _ (looped pair .loop .inv) (pair .loop-test .taken) (compared (c .before .before) ∙ c .before .if1 .left)
 
 returns-2 : tie.Need-returns-2 Inv-loop μ-loop
-returns-2 c = laws.walking-all _ _ _ _ (c .before .loop .inv) (omega (arith, c .loop-test .left))
+returns-2 c = laws.check-is 9 (laws.walking-all _ _ _ _ (c .before .loop .inv) (omega (arith, c .loop-test .left)))
 
 pub new-key-spec : {M : Type 1} → statement M
 new-key-spec =

@@ -1,13 +1,13 @@
 -- `placing::target::array_at` meets its contract. Assumes nothing.
 use native.Mathlib.Omega.{arith}
-use mathlib.Core.Path.{refl, sym, _∙_}
+use mathlib.Core.Path.{sym, _∙_}
 use Rattle.placing.proofs.WordLaws as words
 use borrow.Author.Needs.{needs}
 use Rattle.placing.proofs.target.array_at.Statement.{statement}
 use Rattle.placing.proofs.target.array_at.Tie as tie
 
 returns : tie.Need-returns
-returns c = search needs
+returns c = words.array-outside _ _ _ (c .if1 .taken)
 
 mul-k : tie.Need-mul-k
 mul-k c = search needs
@@ -19,9 +19,10 @@ shared-slice-read-if2 : tie.Need-shared-slice-read-if2
 shared-slice-read-if2 c = search needs
 
 returns-2 : tie.Need-returns-2
-returns-2 c = λ h e.
+returns-2 c =
     let args = c .before .before .before .args in
-    c .if2 .taken (words.word-first (args .table .now) (args .node) ∙ e)
+    words.array-other (args .table .now) _ (args .node) (omega (arith, c .before .before .if1 .left))
+    (λ e. c .if2 .taken (words.word-first (args .table .now) (args .node) ∙ e))
 
 add-t6 : tie.Need-add-t6
 add-t6 c = search needs
@@ -44,12 +45,8 @@ shared-slice-read-t14 c = search needs
 returns-3 : tie.Need-returns-3
 returns-3 c =
     let args = c .before .before .before .before .before .args in
-    record {
-      inside = omega (arith, c .before .before .before .before .if1 .left);
-      tagged = sym (words.word-first (args .table .now) (args .node)) ∙ c .before .before .if2 .left;
-      counted = refl;
-      numbered = refl;
-    }
+    words.array-there (args .table .now) _ (args .node) (omega (arith, c .before .before .before .before .if1 .left))
+    (sym (words.word-first (args .table .now) (args .node)) ∙ c .before .before .if2 .left)
 
 pub array-at-spec : {M : Type 1} → statement M
 array-at-spec =

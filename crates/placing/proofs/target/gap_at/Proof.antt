@@ -1,12 +1,11 @@
 -- `placing::target::gap_at` meets its contract. Assumes nothing.
 use native.Mathlib.Omega.{arith}
-use mathlib.Core.Path.{ap}
-use Prim.Native.Nat.{_+_}
+use Rattle.placing.proofs.WordLaws as words
 use Rattle.placing.proofs.target.gap_at.Statement.{statement}
 use Rattle.placing.proofs.target.gap_at.Tie as tie
 
 returns : tie.Need-returns
-returns c = c .if1 .taken
+returns c = words.gap-beyond _ _ _ _ _ (c .if1 .taken)
 
 add-first : tie.Need-add-first
 add-first c = omega (arith, c .before .before .pre .inside)
@@ -34,11 +33,7 @@ add-t12 : tie.Need-add-t12
 add-t12 c = omega (arith, add-t13 c)
 
 returns-2 : tie.Need-returns-2
-returns-2 c = record {
-  within = c .before .before .if1 .left;
-  behind = c .before .pair-node .ensures;
-  next = ap (λ (n : _). c .before .before .before .before .args .ordinal + n + 1) (c .carried .ensures .0);
-}
+returns-2 c = words.gap-before _ _ _ _ _ (c .before .before .if1 .left) _ _ (c .before .pair-node .ensures) (c .carried .ensures .0)
 
 pub gap-at-spec : {M : Type 1} → statement M
 gap-at-spec =

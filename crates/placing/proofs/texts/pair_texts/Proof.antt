@@ -17,7 +17,7 @@ enum-told : tie.Need-enum-told
 enum-told c = search needs
 
 returns : tie.Need-returns
-returns c = λ k x f t g u. subst (ExactKey _) (c .enum-told .given .1) (c .before .before .exact-key .ensures) k f t
+returns c = laws.texts-unfit _ _ (λ k x f t g u. subst (ExactKey _) (c .enum-told .given .1) (c .before .before .exact-key .ensures) k f t)
 
 exact-requires : tie.Need-exact-requires
 exact-requires c κs = search needs
@@ -29,7 +29,7 @@ enum-told-3 : tie.Need-enum-told-3
 enum-told-3 c = search needs
 
 returns-2 : tie.Need-returns-2
-returns-2 c = λ k x f t g u. subst (Exact _) (c .enum-told3 .given .1) (c .before .before .exact .ensures) x g u
+returns-2 c = laws.texts-unfit _ _ (λ k x f t g u. subst (Exact _) (c .enum-told3 .given .1) (c .before .before .exact .ensures) x g u)
 
 shared-slice-read-t7 : tie.Need-shared-slice-read-t7
 shared-slice-read-t7 c =
@@ -43,7 +43,7 @@ returns-3 : tie.Need-returns-3
 returns-3 c =
     let fit = c .before in
     let keyed = fit .before .before .before .before in
-    laws.are-pair _ _ _ (subst (ExactKey _) (keyed .keyed .given .1) (keyed .before .before .exact-key .ensures)) _
+    laws.texts-fit _ _ (subst (ExactKey _) (keyed .keyed .given .1) (keyed .before .before .exact-key .ensures))
     (subst (Exact _) (fit .enum-told2 .given .1) (fit .before .before .exact .ensures))
 
 pub pair-texts-spec : {M : Type 1} → statement M
