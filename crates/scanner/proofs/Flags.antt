@@ -13,19 +13,20 @@ use Rattle.format.specs.Answer.{Answer, ok, refused, _>>=_, require}
 use Rattle.format.specs.Read.{expect, boolText}
 use Rattle.scanner.specs.declared.Scan.{Scan}
 use Rattle.bytes_at.specs.ByteAt.{byteAt}
-use Rattle.scanner.specs.Scans.{Scans, found, unfit, nullText, tell, nothingTold, boolTold}
+use Rattle.scanner.specs.Scans.{Scans, nullText, tell, nothingTold, boolTold}
+use Rattle.scanner.proofs.Numbers.{scans-is, scans-not}
 use Rattle.bytes_at.proofs.BytesAt.{byte-in, byte-there, drop-byte, expect-yes, expect-no, pair-first, pair-second, pair-there}
 
 module _ (s : List ℕ) (at : ℕ) where
   pub null-open : eqb (byteAt s at) (byte ";") ≡ false → Scans nullText nothingTold s at (Scan.Not 2)
   unfolding nullText
-  null-open e = unfit 2 (λ l. rw (nullText, expect-no l s at (byte ";") [] e))
+  null-open e = scans-not 2 (λ l. rw (nullText, expect-no l s at (byte ";") [] e))
 
   pub null-is : eqb (byteAt s at) (byte ";") ≡ true → Scans nullText nothingTold s at (Scan.Is (tell 0 0 0 (at + 1)))
   unfolding nullText
   null-is e =
       let k : at < length s = byte-there s at (byte ";") (lit< tt) e in
-      found (tell 0 0 0 (at + 1)) record {
+      scans-is (tell 0 0 0 (at + 1)) record {
         what = tt;
         is = λ l. rw (nullText, expect-yes l s at (byte ";") [] (lit< tt) e);
         tells = refl;
@@ -35,7 +36,7 @@ module _ (s : List ℕ) (at : ℕ) where
 
   pub bool-open : eqb (byteAt s at) (byte ":") ≡ false → Scans boolText boolTold s at (Scan.Not 2)
   unfolding boolText
-  bool-open e = unfit 2 (λ l. rw (boolText, expect-no l s at (byte ":") [] e))
+  bool-open e = scans-not 2 (λ l. rw (boolText, expect-no l s at (byte ":") [] e))
 
   module _ (colon : eqb (byteAt s at) (byte ":") ≡ true) where
     -- what follows the colon
@@ -66,7 +67,7 @@ module _ (s : List ℕ) (at : ℕ) where
         → (eqb (byteAt s (at + 1)) b && eqb (byteAt s (at + 1 + 1)) (byte ";")) ≡ true → Scans boolText boolTold s at (Scan.Is (tell w 0 0 (at + 3)))
     bool-is v b w h f q e =
         let k : at + 1 + 1 < length s = pair-there s (at + 1) b (byte ";") e (lit< tt) in
-        found (tell w 0 0 (at + 3)) record {
+        scans-is (tell w 0 0 (at + 3)) record {
           what = v;
           is = rest-is b v h f e;
           tells = ap (λ (x : ℕ). tell x 0 0 (at + 3)) q;
@@ -84,7 +85,7 @@ module _ (s : List ℕ) (at : ℕ) where
 
     pub bool-not : (eqb (byteAt s (at + 1)) (byte "0") && eqb (byteAt s (at + 1 + 1)) (byte ";")) ≡ false
         → (eqb (byteAt s (at + 1)) (byte "1") && eqb (byteAt s (at + 1 + 1)) (byte ";")) ≡ false → Scans boolText boolTold s at (Scan.Not 2)
-    bool-not z o = unfit 2 (λ l. opened l ∙ go l (test (eqb (byteAt s (at + 1)) (byte "0"))) (test (eqb (byteAt s (at + 1)) (byte "1"))))
+    bool-not z o = scans-not 2 (λ l. opened l ∙ go l (test (eqb (byteAt s (at + 1)) (byte "0"))) (test (eqb (byteAt s (at + 1)) (byte "1"))))
       where
         bare : (l b : ℕ) → b < 256 → eqb (byteAt s (at + 1)) b ≡ true → (eqb (byteAt s (at + 1)) b && eqb (byteAt s (at + 1 + 1)) (byte ";")) ≡ false
             → (v : Bool) → ((s₂ : List ℕ) → rest l (b ∷ s₂) ≡ (expect l (bytes ";") s₂ >>= λ s₃. ok (v, s₃))) → rest l (drop (at + 1) s) ≡ refused 2 l

@@ -14,10 +14,11 @@ use Rattle.format.specs.Limits.{isFloat}
 use Rattle.format.specs.Answer.{Answer, ok, require, _>>=_}
 use Rattle.format.specs.Read.{expect, until, floatText}
 use Rattle.scanner.specs.declared.Scan.{Scan}
-use Rattle.scanner.specs.Scans.{Scans, found, unfit, tell, floatTold}
+use Rattle.scanner.specs.Scans.{Scans, tell, floatTold}
 use Rattle.scanner.specs.Parts.{SemicolonAt}
 use Rattle.bytes_at.specs.ByteAt.{byteAt}
 use Rattle.bytes_at.proofs.BytesAt.{expect-yes, expect-no}
+use Rattle.scanner.proofs.Numbers.{scans-is, scans-not}
 
 -- ---- the semicolon
 
@@ -80,7 +81,7 @@ semicolon-none s at i p h = record {
 module _ (s : List ℕ) (at : ℕ) where
   pub float-colon : eqb (byteAt s at) (byte ":") ≡ false → Scans floatText (floatTold at) s at (Scan.Not 2)
   unfolding floatText
-  float-colon e = unfit 2 (λ l. rw (floatText, expect-no l s at (byte ":") [] e))
+  float-colon e = scans-not 2 (λ l. rw (floatText, expect-no l s at (byte ":") [] e))
 
   module _ (colon : eqb (byteAt s at) (byte ":") ≡ true) (end : ℕ) (semi : SemicolonAt s (at + 1) end) where
     abbrev part : List ℕ
@@ -104,15 +105,15 @@ module _ (s : List ℕ) (at : ℕ) where
     opened l = rw (floatText, expect-yes l s at (byte ":") [] (lit< tt) colon, semi .part, long, drop-drop (end - (at + 1)) (at + 1) s, there)
 
     pub float-not : isFloat part ≡ false → Scans floatText (floatTold at) s at (Scan.Not 2)
-    float-not e = unfit 2 (λ l. opened l ∙ rw e)
+    float-not e = scans-not 2 (λ l. opened l ∙ rw e)
 
     module _ (e : isFloat part ≡ true) where
       pub float-open : length s ≤ end → Scans floatText (floatTold at) s at (Scan.Not 2)
-      float-open h = unfit 2 (λ l. opened l ∙ rw (e, drop-of-length-le s h))
+      float-open h = scans-not 2 (λ l. opened l ∙ rw (e, drop-of-length-le s h))
 
       pub float-is : (w : ℕ) → w ≡ at + 1 → (n : ℕ) → n ≡ end - (at + 1) → end < length s → Scans floatText (floatTold at) s at (Scan.Is (tell w n 0 (end + 1)))
       float-is w a n b h =
-          found (tell w n 0 (end + 1)) record {
+          scans-is (tell w n 0 (end + 1)) record {
             what = part;
             is = λ l. opened l ∙ rw (e, drop-cons s end 0 h, semi .stop h) (ap (λ (k : ℕ). ok (part, drop k s)) (sym (add-one end)));
             tells = rw (long, a, b);

@@ -6,15 +6,14 @@ use mathlib.Core.Logic.{⊎-elim}
 use mathlib.Core.Bool.{Bool, true, false, _&&_}
 use mathlib.Core.List.{List, [], _∷_}
 use lib.Dec.{eqb, lit<}
-use lib.ListN.{length, drop, length-drop, length-append, drop-of-length-le}
-use lib.Seq.{drop-cons, drop-drop, drop-append-seam}
+use lib.ListN.{length, drop, length-drop}
 use borrow.Author.Tests.{ne-eqb, le-leb, lt-leb, lt-ltb, le-ltb}
-use Rattle.decimal.specs.Digits.{isDigit, digitsOf, afterDigits, value, decimal}
+use Rattle.decimal.specs.Digits.{isDigit, digitsOf, value, decimal}
 use Rattle.decimal.specs.Complement.{pattern}
 use Rattle.decimal.specs.Promise.{RunAt}
 use Rattle.decimal.specs.declared.Run.{Run}
 use Rattle.decimal.proofs.Decide.{Test, passed, failed, test, T-of, Order, below, above, order}
-use Rattle.decimal.proofs.Numerals.{digit-low, digits-split}
+use Rattle.decimal.proofs.Numerals.{digit-low}
 use Rattle.format.specs.Bytes.{byte, bytes}
 use Rattle.format.specs.Syntax.{Sign, unsigned, plus, minus, Literal, Spelling}
 use Rattle.format.specs.Keys.{integer}
@@ -22,11 +21,11 @@ use Rattle.format.specs.Limits.{numberLimit, integerLimit, signOf}
 use Rattle.format.specs.Answer.{Answer, ok, refused, _>>=_}
 use Rattle.format.specs.Read.{expect, digits, number, intText}
 use Rattle.format.specs.Table.{word}
-use Rattle.format.proofs.Answers.{ok-same, not-both, bind-ok, bind-refused}
+use Rattle.format.proofs.Answers.{ok-same, refused-same, not-both, bind-ok, bind-refused}
 use Rattle.scanner.specs.declared.Text.{Text}
 use Rattle.scanner.specs.declared.number.Front.{Front}
 use Rattle.scanner.specs.declared.Scan.{Scan}
-use Rattle.scanner.specs.Scans.{Reader, Told, Found, Scans, found, unfit, scanned, scanOf, Answers, countText, namedText, tell, valueTold, literalTold}
+use Rattle.scanner.specs.Scans.{Reader, Told, scanAnswer, textAnswer, Found, Scans, Answers, countText, namedText, tell, valueTold, literalTold}
 use Rattle.scanner.specs.Scans.{countTold}
 use Rattle.scanner.specs.Parts.{digitsText, signedText, signedTold, isMinus, FrontIs}
 use Rattle.bytes_at.specs.ByteAt.{byteAt}
@@ -36,58 +35,92 @@ use Rattle.bytes_at.proofs.Runs.{run-rest, run-short}
 
 -- ---- answers
 
-pub not-text : {x : Text} {c : ℕ} → Scan.Not c ≡ Scan.Is x → ⊥
-not-text e = let z : _≡_ {A = ℕ} 0 1 = cc in omega arith
-
--- which of the two it is, where the code knows
 module _ {A : Type 0} {read : Reader A} {told : Told A} {s : List ℕ} {at : ℕ} where
+  pub scans-is : (t : Text) → Found read told s at t → Scans read told s at (Scan.Is t)
+  scans-is t f = record { found = λ l u e. subst (Found read told s at) (ok-same e) f; unfit = λ l c e. absurd (not-both (sym e)) }
+
+  pub scans-not : (c : ℕ) → ((l : ℕ) → read l (drop at s) ≡ refused c l) → Scans read told s at (Scan.Not c)
+  scans-not c f = record { found = λ l t e. absurd (not-both e); unfit = λ l d e. f l ∙ ap (λ (n : ℕ). refused n l) (refused-same e .0) }
+
+  -- which of the two it is, where the code knows
   pub found-of : {r : Scan} {t : Text} → Scans read told s at r → r ≡ Scan.Is t → Found read told s at t
-  found-of (found t f) e = subst (Found read told s at) (is-same e) f
-    where
-      is-same : {t u : Text} → Scan.Is t ≡ Scan.Is u → t ≡ u
-      is-same e = cc
-  found-of (unfit c f) e = absurd (not-text e)
+  found-of {t = t} h e = h .found 0 t (ap (scanAnswer 0) e)
 
   pub unfit-of : {r : Scan} {c : ℕ} → Scans read told s at r → r ≡ Scan.Not c → (l : ℕ) → read l (drop at s) ≡ refused c l
-  unfit-of (found t f) e l = absurd (not-text (sym e))
-  unfit-of (unfit c f) e l = f l ∙ ap (λ (c : ℕ). refused c l) (not-same e)
-    where
-      not-same : {a b : ℕ} → Scan.Not a ≡ Scan.Not b → a ≡ b
-      not-same e = cc
+  unfit-of {c = c} h e l = h .unfit l c (ap (scanAnswer l) e)
 
--- what is read determines the answer
-pub answered : {A : Type 0} {read : Reader A} {told : Told A} {s : List ℕ} {at : ℕ} {r : Scan} → Scans read told s at r → Answers read told s at r
-unfolding scanOf
-answered {told = told} {s} {at} (found t f) =
-    record {
-      answer = ap Scan.Is (f .tells ∙ ap (told (f .what)) (ends (f .inside))) ∙ sym (ap (scanned told (length s)) (f .is 0));
-      scans = found t f;
-    }
-  where
-    ends : t .next ≤ length s → t .next ≡ length s - length (drop (t .next) s)
-    ends h = omega (arith, length-drop (t .next) s)
-answered {told = told} {s} (unfit c f) = record { answer = sym (ap (scanned told (length s)) (f 0)); scans = unfit c f }
+  -- what is read determines the answer
+  pub answered : {r : Scan} → Scans read told s at r → Answers read told s at r
+  unfolding textAnswer
+  answered {r = Scan.Is t} h = record { answer = λ l. rw (f .is l) (ap ok (f .tells ∙ ap (told (f .what)) (ends (f .inside)))); scans = h }
+    where
+      f : Found read told s at t
+      f = h .found 0 t refl
+
+      ends : t .next ≤ length s → t .next ≡ length s - length (drop (t .next) s)
+      ends h = omega (arith, length-drop (t .next) s)
+  answered {r = Scan.Not c} h = record { answer = λ l. rw (h .unfit l c refl); scans = h }
 
 -- a text whose part is unfit is unfit as its part is
 pub unfit-part : {A B : Type 0} {read : Reader A} {told : Told A} {whole : Reader B} {tells : Told B} {s : List ℕ} {at from c : ℕ} {r : Scan}
     → Scans read told s from r → r ≡ Scan.Not c → ((l : ℕ) → read l (drop from s) ≡ refused c l → whole l (drop at s) ≡ refused c l) → Scans whole tells s at r
-unfit-part {whole = whole} {tells} {s} {at} {c = c} h e f = subst (Scans whole tells s at) (sym e) (unfit c (λ l. f l (unfit-of h e l)))
+unfit-part {whole = whole} {tells} {s} {at} {c = c} h e f = subst (Scans whole tells s at) (sym e) (scans-not c (λ l. f l (unfit-of h e l)))
 
--- a text that is made of another answers as that does
+-- what was read, and what is left
+abbrev pub kept : {A : Type 0} → A → List ℕ → Answer (A × List ℕ)
+kept a s = ok (a, s)
+
+-- a text that is made of a part of it answers as the part does
+pub scans-part : {A B : Type 0} {read : Reader A} {told : Told A} {whole : Reader B} {tells : Told B} {s : List ℕ} {at from : ℕ} {r : Scan}
+    → Scans read told s from r → at ≤ from → (f : A → B) → ((l : ℕ) → whole l (drop at s) ≡ (read l (drop from s) >>= λ q. kept (f (q .0)) (q .1)))
+    → ((x : A) (next : ℕ) → told x next ≡ tells (f x) next) → Scans whole tells s at r
+scans-part h k f e g =
+    record {
+      found = λ l t q.
+          let x = h .found l t q in
+          record {
+            what = f (x .what);
+            is = λ l. e l ∙ rw (x .is l);
+            tells = x .tells ∙ g (x .what) (t .next);
+            on = omega (arith, x .on);
+            inside = x .inside;
+          };
+      unfit = λ l c q. e l ∙ rw (h .unfit l c q);
+    }
+
+-- one that reads as its part does
+pub scans-from : {A : Type 0} {read same : Reader A} {told : Told A} {s : List ℕ} {at from : ℕ} {r : Scan} → Scans read told s from r
+    → at ≤ from → ((l : ℕ) → same l (drop at s) ≡ read l (drop from s)) → Scans same told s at r
+scans-from {A} {read} {s = s} {from = from} h k e = scans-part h k (λ x. x) (λ l. e l ∙ whole (read l (drop from s))) (λ x next. refl)
+  where
+    whole : (a : Answer (A × List ℕ)) → a ≡ (a >>= λ q. kept (q .0) (q .1))
+    whole (ok q) = refl
+    whole (refused c l) = refl
+
+-- the same from one index on
 pub scans-map : {A B : Type 0} {read : Reader A} {told : Told A} {whole : Reader B} {tells : Told B} {s : List ℕ} {at : ℕ} {r : Scan} (f : A → B)
     → ((l : ℕ) (s : List ℕ) → whole l s ≡ (read l s >>= λ q. ok (f (q .0), q .1))) → ((x : A) (next : ℕ) → told x next ≡ tells (f x) next)
     → Scans read told s at r → Scans whole tells s at r
-scans-map {s = s} {at} f e g (found t h) =
-    found t record { what = f (h .what); is = λ l. e l (drop at s) ∙ rw (h .is l); tells = h .tells ∙ g (h .what) (t .next); on = h .on; inside = h .inside }
-scans-map {s = s} {at} f e g (unfit c h) = unfit c (λ l. e l (drop at s) ∙ rw (h l))
+scans-map {s = s} {at} f e g h = scans-part h (omega arith) f (λ l. e l (drop at s)) g
+
+pub scans-same : {A : Type 0} {read same : Reader A} {told : Told A} {s : List ℕ} {at : ℕ} {r : Scan} → ((l : ℕ) (s : List ℕ) → same l s ≡ read l s)
+    → Scans read told s at r → Scans same told s at r
+scans-same {s = s} {at} e h = scans-from h (omega arith) (λ l. e l (drop at s))
 
 -- and the other way round, where what is made tells what it was made of
 pub scans-back : {A B : Type 0} {read : Reader A} {told : Told A} {whole : Reader B} {tells : Told B} {s : List ℕ} {at : ℕ} {r : Scan} (f : A → B)
     → ((x y : A) → f x ≡ f y → x ≡ y)
     → ((l : ℕ) (s : List ℕ) → whole l s ≡ (read l s >>= λ q. ok (f (q .0), q .1))) → ((x : A) (next : ℕ) → told x next ≡ tells (f x) next)
     → Scans whole tells s at r → Scans read told s at r
-scans-back {A} {B} {read} {told} {whole} {tells} {s} {at} f one e g (found t h) =
-    found t record {
+scans-back {A} {B} {read} {told} {whole} {tells} {s} {at} f one e g h =
+    record {
+      found = λ l t q. back t (h .found l t q);
+      unfit = λ l c q. ⊎-elim (λ r. r) (λ q. absurd (not-both (sym (q .2))))
+          (bind-refused (read l (drop at s)) (λ q. ok (f (q .0), q .1)) c l (sym (e l (drop at s)) ∙ h .unfit l c q));
+    }
+  where
+    back : (t : Text) → Found whole tells s at t → Found read told s at t
+    back t h = record {
       what = x;
       is = λ l. part l .1 ∙ ap₂ (λ (a : A) (u : List ℕ). ok (a, u)) (one (part l .0 .0) x (same l ∙ sym (same 0)))
           (ap (λ (p : B × List ℕ). p .1) (ok-same (part l .2)));
@@ -95,28 +128,15 @@ scans-back {A} {B} {read} {told} {whole} {tells} {s} {at} f one e g (found t h) 
       on = h .on;
       inside = h .inside;
     }
-  where
-    part : (l : ℕ) → (q : A × List ℕ) × (read l (drop at s) ≡ ok q) × (_≡_ {A = Answer (B × List ℕ)} (ok (f (q .0), q .1)) (ok (h .what, drop (t .next) s)))
-    part l = bind-ok (read l (drop at s)) (λ q. ok (f (q .0), q .1)) (h .what, drop (t .next) s) (sym (e l (drop at s)) ∙ h .is l)
+      where
+        part : (l : ℕ) → (q : A × List ℕ) × (read l (drop at s) ≡ ok q) × (_≡_ {A = Answer (B × List ℕ)} (ok (f (q .0), q .1)) (ok (h .what, drop (t .next) s)))
+        part l = bind-ok (read l (drop at s)) (λ q. ok (f (q .0), q .1)) (h .what, drop (t .next) s) (sym (e l (drop at s)) ∙ h .is l)
 
-    same : (l : ℕ) → f (part l .0 .0) ≡ h .what
-    same l = ap (λ (p : B × List ℕ). p .0) (ok-same (part l .2))
+        same : (l : ℕ) → f (part l .0 .0) ≡ h .what
+        same l = ap (λ (p : B × List ℕ). p .0) (ok-same (part l .2))
 
-    x : A
-    x = part 0 .0 .0
-scans-back {A} {B} {read} {s = s} {at} f one e g (unfit c h) =
-    unfit c (λ l. ⊎-elim (λ r. r) (λ q. absurd (not-both (sym (q .2))))
-    (bind-refused (read l (drop at s)) (λ q. ok (f (q .0), q .1)) c l (sym (e l (drop at s)) ∙ h l)))
-
--- a text that reads alike answers alike
-pub scans-same : {A : Type 0} {read same : Reader A} {told : Told A} {s : List ℕ} {at : ℕ} {r : Scan} → ((l : ℕ) (s : List ℕ) → same l s ≡ read l s)
-    → Scans read told s at r → Scans same told s at r
-scans-same {s = s} {at} e (found t h) = found t record { what = h .what; is = λ l. e l (drop at s) ∙ h .is l; tells = h .tells; on = h .on; inside = h .inside }
-scans-same {s = s} {at} e (unfit c h) = unfit c (λ l. e l (drop at s) ∙ h l)
-
--- what was read, and what is left
-abbrev pub kept : {A : Type 0} → A → List ℕ → Answer (A × List ℕ)
-kept a s = ok (a, s)
+        x : A
+        x = part 0 .0 .0
 
 -- what is made of a part is made after it
 after-part : {A B : Type 0} (a : Answer (A × List ℕ)) (e : List ℕ → Answer (List ℕ)) (f : A → B)
@@ -133,7 +153,7 @@ after-part {A} {B} (ok q) e f = go (e (q .1))
 module _ (s : List ℕ) (at top : ℕ) (r : Run) (h : RunAt s at (top + 1) r) where
   pub digits-none : r .next ≡ at → Scans (digitsText top) valueTold s at (Scan.Not 2)
   unfolding digits
-  digits-none e = unfit 2 (λ l. rw (digits, le-ltb 0 (length (digitsOf (drop at s))) (omega (arith, h .next))))
+  digits-none e = scans-not 2 (λ l. rw (digits, le-ltb 0 (length (digitsOf (drop at s))) (omega (arith, h .next))))
 
   module _ (n : r .next ≡ at → ⊥) where
     some : 0 < length (digitsOf (drop at s))
@@ -142,13 +162,13 @@ module _ (s : List ℕ) (at top : ℕ) (r : Run) (h : RunAt s at (top + 1) r) wh
     pub digits-over : top < r .value → Scans (digitsText top) valueTold s at (Scan.Not 5)
     unfolding digits
     digits-over g =
-        unfit 5 (λ l. rw (digits, lt-ltb 0 (length (digitsOf (drop at s))) some, lt-leb (value (digitsOf (drop at s))) top (omega (arith, h .value))))
+        scans-not 5 (λ l. rw (digits, lt-ltb 0 (length (digitsOf (drop at s))) some, lt-leb (value (digitsOf (drop at s))) top (omega (arith, h .value))))
 
     pub digits-are : r .value ≤ top → Scans (digitsText top) valueTold s at (Scan.Is (tell (r .value) 0 0 (r .next)))
     unfolding digits
     digits-are g =
         let q : value (digitsOf (drop at s)) ≡ r .value = omega (arith, h .value) in
-        found (tell (r .value) 0 0 (r .next)) record {
+        scans-is (tell (r .value) 0 0 (r .next)) record {
           what = (length (digitsOf (drop at s)) - length (decimal (r .value)), r .value);
           is = λ l. rw (digits, lt-ltb 0 (length (digitsOf (drop at s))) some, q, le-leb (r .value) top g, run-rest s at (top + 1) r h);
           tells = refl;
@@ -190,14 +210,14 @@ some-digits top t q e = go (order 0 (length (digitsOf t)))
 module _ (s : List ℕ) (at : ℕ) (negative : Bool) (top : ℕ) (run : Text) (n : Found (digitsText top) valueTold s at run) where
   pub magnitude-open : eqb (byteAt s (run .next)) (byte ";") ≡ false → Scans (signedText top) (signedTold negative) s at (Scan.Not 2)
   unfolding signedText
-  magnitude-open e = unfit 2 (λ l. rw (signedText, n .is l, expect-no l s (run .next) (byte ";") [] e))
+  magnitude-open e = scans-not 2 (λ l. rw (signedText, n .is l, expect-no l s (run .next) (byte ";") [] e))
 
   pub magnitude-is : (w : ℕ) → w ≡ pattern 64 negative (run .content) → eqb (byteAt s (run .next)) (byte ";") ≡ true
       → Scans (signedText top) (signedTold negative) s at (Scan.Is (tell w 0 0 (run .next + 1)))
   unfolding signedText
   magnitude-is w h e =
       let k : run .next < length s = byte-there s (run .next) (byte ";") (lit< tt) e in
-      found (tell w 0 0 (run .next + 1)) record {
+      scans-is (tell w 0 0 (run .next + 1)) record {
         what = n .what;
         is = λ l. rw (signedText, n .is l, expect-yes l s (run .next) (byte ";") [] (lit< tt) e);
         tells = ap (λ (x : ℕ). tell x 0 0 (run .next + 1)) (h ∙ ap (λ (u : Text). pattern 64 negative (u .content)) (n .tells));
@@ -231,7 +251,7 @@ sign-word minus z (suc n) = refl
 module _ (s : List ℕ) (at : ℕ) where
   pub int-open : eqb (byteAt s at) (byte ":") ≡ false → Scans intText literalTold s at (Scan.Not 2)
   unfolding intText
-  int-open e = unfit 2 (λ l. rw (intText, expect-no l s at (byte ":") [] e))
+  int-open e = scans-not 2 (λ l. rw (intText, expect-no l s at (byte ":") [] e))
 
   module _ (colon : eqb (byteAt s at) (byte ":") ≡ true) (g : Sign) (from : ℕ) (sg : SignAt s (at + 1) g from) where
     opened : (l : ℕ) → intText l (drop at s) ≡ (signedText (integerLimit g) l (drop from s) >>= λ q. kept (literal g (q .0)) (q .1))
@@ -243,23 +263,15 @@ module _ (s : List ℕ) (at : ℕ) where
     ) (after-part (digits l (integerLimit g) (drop from s)) (expect l (bytes ";")) (literal g))
 
     pub int-is : (r : Scan) → Scans (signedText (integerLimit g)) (signedTold (isMinus g)) s from r → Scans intText literalTold s at r
-    int-is r (found t f) =
-        found t record {
-          what = literal g (f .what);
-          is = λ l. opened l ∙ rw (f .is l);
-          tells = f .tells ∙ ap (λ (x : ℕ). tell x 0 0 (t .next)) (sign-word g (f .what .0) (f .what .1));
-          on = omega (arith, sg .on, f .on);
-          inside = f .inside;
-        }
-    int-is r (unfit c f) = unfit c (λ l. opened l ∙ rw (f l))
+    int-is r h = scans-part h (omega (arith, sg .on)) (literal g) opened (λ x next. ap (λ (w : ℕ). tell w 0 0 next) (sign-word g (x .0) (x .1)))
 
   -- one that is found without a sign
   pub int-unsigned : eqb (byteAt s at) (byte ":") ≡ true → (r : Scan) → Scans (signedText (integerLimit unsigned)) (signedTold false) s (at + 1) r
-      → (x : Text) → r ≡ Scan.Is x → Scans intText literalTold s at r
-  int-unsigned colon r h x e =
+      → (l : ℕ) (t : Text) → scanAnswer l r ≡ ok t → Scans intText literalTold s at r
+  int-unsigned colon r h l t e =
       int-is colon unsigned (at + 1)
       (record {
-        is = digits-unsigned (drop (at + 1) s) (some-digits (integerLimit unsigned) (drop (at + 1) s) _ (found-of h e .is 0));
+        is = digits-unsigned (drop (at + 1) s) (some-digits (integerLimit unsigned) (drop (at + 1) s) _ (h .found l t e .is 0));
         on = omega arith;
       }) r h
 
@@ -289,7 +301,7 @@ count-not {s} {at} {c} h e = unfit-part h e (λ l q. rw (countText, number-not l
 module _ (s : List ℕ) (at : ℕ) (run : Text) (n : Found (digitsText numberLimit) valueTold s at run) where
   pub count-open : (eqb (byteAt s (run .next)) (byte ":") && eqb (byteAt s (run .next + 1)) (byte "{")) ≡ false → Scans countText countTold s at (Scan.Not 2)
   unfolding countText
-  count-open e = unfit 2
+  count-open e = scans-not 2
       (λ l. rw (countText, number-is l (drop at s) (n .what) (drop (run .next) s) (n .is l), pair-no s (run .next) (byte ":") (byte "{") l [] (lit< tt) e))
 
   pub count-is : (eqb (byteAt s (run .next)) (byte ":") && eqb (byteAt s (run .next + 1)) (byte "{")) ≡ true
@@ -297,7 +309,7 @@ module _ (s : List ℕ) (at : ℕ) (run : Text) (n : Found (digitsText numberLim
   unfolding countText
   count-is e =
       let k : run .next + 1 < length s = pair-there s (run .next) (byte ":") (byte "{") e (lit< tt) in
-      found (tell 0 0 (run .content) (run .next + 2)) record {
+      scans-is (tell 0 0 (run .content) (run .next + 2)) record {
         what = spelledSo (n .what);
         is = λ l. rw (
           countText,
@@ -312,7 +324,7 @@ module _ (s : List ℕ) (at : ℕ) (run : Text) (n : Found (digitsText numberLim
 module _ (s : List ℕ) (at : ℕ) where
   pub named-colon : eqb (byteAt s at) (byte ":") ≡ false → Scans namedText valueTold s at (Scan.Not 2)
   unfolding namedText
-  named-colon e = unfit 2 (λ l. rw (namedText, expect-no l s at (byte ":") [] e))
+  named-colon e = scans-not 2 (λ l. rw (namedText, expect-no l s at (byte ":") [] e))
 
   module _ (colon : eqb (byteAt s at) (byte ":") ≡ true) where
     pub named-not : (r : Scan) (c : ℕ) → Scans (digitsText numberLimit) valueTold s (at + 1) r → r ≡ Scan.Not c → Scans namedText valueTold s at r
@@ -322,7 +334,7 @@ module _ (s : List ℕ) (at : ℕ) where
     module _ (run : Text) (n : Found (digitsText numberLimit) valueTold s (at + 1) run) where
       pub named-open : eqb (byteAt s (run .next)) (byte ";") ≡ false → Scans namedText valueTold s at (Scan.Not 2)
       unfolding namedText
-      named-open e = unfit 2
+      named-open e = scans-not 2
           (λ l. rw (
             namedText,
             expect-yes l s at (byte ":") [] (lit< tt) colon,
@@ -334,7 +346,7 @@ module _ (s : List ℕ) (at : ℕ) where
       unfolding namedText
       named-is e =
           let k : run .next < length s = byte-there s (run .next) (byte ";") (lit< tt) e in
-          found (tell (run .content) 0 0 (run .next + 1)) record {
+          scans-is (tell (run .content) 0 0 (run .next + 1)) record {
             what = spelledSo (n .what);
             is = λ l. rw (
               namedText,

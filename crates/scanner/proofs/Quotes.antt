@@ -18,10 +18,10 @@ use Rattle.format.proofs.Texts.{digits-ok}
 use Rattle.scanner.specs.declared.Text.{Text}
 use Rattle.scanner.specs.declared.Scan.{Scan}
 use Rattle.bytes_at.specs.ByteAt.{byteAt}
-use Rattle.scanner.specs.Scans.{Found, Scans, found, unfit, tell, valueTold, quotedTold}
+use Rattle.scanner.specs.Scans.{Found, Scans, tell, valueTold, quotedTold}
 use Rattle.scanner.specs.Parts.{digitsText}
 use Rattle.bytes_at.proofs.BytesAt.{expect-yes, expect-no, pair-there, pair-yes, pair-no}
-use Rattle.scanner.proofs.Numbers.{unfit-part, number-is, number-not}
+use Rattle.scanner.proofs.Numbers.{scans-is, scans-not, unfit-part, number-is, number-not}
 
 module _ (s : List ℕ) (at close : ℕ) (small : close < 256) where
   abbrev Answers : Scan → Type 0
@@ -29,7 +29,7 @@ module _ (s : List ℕ) (at close : ℕ) (small : close < 256) where
 
   pub quoted-colon : eqb (byteAt s at) (byte ":") ≡ false → Answers (Scan.Not 2)
   unfolding quotedText
-  quoted-colon e = unfit 2 (λ l. rw (quotedText, expect-no l s at (byte ":") [] e))
+  quoted-colon e = scans-not 2 (λ l. rw (quotedText, expect-no l s at (byte ":") [] e))
 
   module _ (colon : eqb (byteAt s at) (byte ":") ≡ true) where
     pub quoted-not : (r : Scan) (c : ℕ) → Scans (digitsText numberLimit) valueTold s (at + 1) r → r ≡ Scan.Not c → Answers r
@@ -53,7 +53,7 @@ module _ (s : List ℕ) (at close : ℕ) (small : close < 256) where
       opened l = rw (quotedText, expect-yes l s at (byte ":") [] (lit< tt) colon, number-is l (drop (at + 1) s) (n .what) (drop (run .next) s) (n .is l), worth)
 
       pub quoted-quote : (eqb (byteAt s (run .next)) (byte ":") && eqb (byteAt s (run .next + 1)) (byte "\"")) ≡ false → Answers (Scan.Not 2)
-      quoted-quote e = unfit 2 (λ l. opened l ∙ rw (pair-no s (run .next) (byte ":") (byte "\"") l [] (lit< tt) e))
+      quoted-quote e = scans-not 2 (λ l. opened l ∙ rw (pair-no s (run .next) (byte ":") (byte "\"") l [] (lit< tt) e))
 
       module _ (quote : (eqb (byteAt s (run .next)) (byte ":") && eqb (byteAt s (run .next + 1)) (byte "\"")) ≡ true) where
         abbrev offset : ℕ
@@ -63,13 +63,13 @@ module _ (s : List ℕ) (at close : ℕ) (small : close < 256) where
         entered l = pair-yes s (run .next) (byte ":") (byte "\"") quote l [] (lit< tt) (lit< tt)
 
         pub quoted-short : length s - offset < run .content → Answers (Scan.Not 2)
-        quoted-short h = unfit 2 (λ l. opened l ∙ rw (entered l, length-drop offset s, lt-leb (run .content) (length s - offset) h))
+        quoted-short h = scans-not 2 (λ l. opened l ∙ rw (entered l, length-drop offset s, lt-leb (run .content) (length s - offset) h))
 
         module _ (enough : run .content ≤ length s - offset) where
           pub quoted-open : (eqb (byteAt s (offset + run .content)) (byte "\"") && eqb (byteAt s (offset + run .content + 1)) close) ≡ false
               → Answers (Scan.Not 2)
           quoted-open e =
-              unfit 2 (λ l. opened l ∙ rw (
+              scans-not 2 (λ l. opened l ∙ rw (
                 entered l,
                 length-drop offset s,
                 le-leb (run .content) (length s - offset) enough,
@@ -99,7 +99,7 @@ module _ (s : List ℕ) (at close : ℕ) (small : close < 256) where
               → Answers (Scan.Is (tell w (run .content) 0 (offset + run .content + 2)))
           quoted-is w z e =
               let k : offset + run .content + 1 < length s = pair-there s (offset + run .content) (byte "\"") close e small in
-              found (tell w (run .content) 0 (offset + run .content + 2)) record {
+              scans-is (tell w (run .content) 0 (offset + run .content + 2)) record {
                 what = record { spelling = record { zeros = n .what .0 }; text = take (run .content) (drop offset s) };
                 is = λ l.
                     opened l ∙ rw (

@@ -10,10 +10,10 @@ use Rattle.format.specs.Answer.{ok}
 use Rattle.format.specs.Read.{kindOf, expect, intText, quotedText, boolText, floatText}
 use Rattle.format.proofs.Answers.{bind-map}
 use Rattle.scanner.specs.declared.Scan.{Scan}
-use Rattle.scanner.specs.Scans.{Reader, Told, Scans, Answers, unfit, nullText, scalarText, scalarBehind, nothingTold, boolTold, literalTold, floatTold}
+use Rattle.scanner.specs.Scans.{Reader, Told, Scans, Answers, nullText, scalarText, scalarBehind, nothingTold, boolTold, literalTold, floatTold}
 use Rattle.scanner.specs.Scans.{quotedTold, scalarTold}
 use Rattle.scanner.specs.Parts.{Sure}
-use Rattle.scanner.proofs.Numbers.{scans-map, scans-same}
+use Rattle.scanner.proofs.Numbers.{scans-not, scans-map, scans-same}
 
 module _ (s : List ℕ) (at b : ℕ) (r : Scan) where
   -- a tag's kind, where the code knows the tag
@@ -57,7 +57,7 @@ pub scalar-none : (s : List ℕ) (at b : ℕ) → (b ≡ tag Kind.null → ⊥) 
     → Scans (scalarBehind b) (scalarTold at) s at (Scan.Not 3)
 unfolding scalarBehind
 scalar-none s at b n o i f t =
-    unfit 3 (λ l. rw (
+    scans-not 3 (λ l. rw (
       ne-eqb 78 b (λ e. n (sym e)),
       kindOf,
       ne-eqb 98 b (λ e. o (sym e)),

@@ -13,11 +13,11 @@ use Rattle.format.specs.Read.{expect, until, digits}
 use Rattle.scanner.specs.declared.Text.{Text}
 use Rattle.scanner.specs.declared.Scan.{Scan}
 use Rattle.scanner.specs.declared.number.Front.{Front}
-use Rattle.scanner.specs.Scans.{Reader, Told, Found, tell}
+use Rattle.scanner.specs.Scans.{Reader, Told, scanAnswer, Found, tell}
 
 -- a scan that is sure of a text that it finds: what it refuses may be one all the same
 pub record Sure {A : Type 0} (read : Reader A) (told : Told A) (s : List ℕ) (at : ℕ) (r : Scan) : Type 0 where
-  pub text : (x : Text) → r ≡ Scan.Is x → Found read told s at x
+  pub found : (l : ℕ) (t : Text) → scanAnswer l r ≡ ok t → Found read told s at t
 
 -- ---- digits
 

@@ -23,13 +23,15 @@ Reader A = (l : ℕ) → List ℕ → Answer (A × List ℕ)
 abbrev pub Told : Type 0 → Type 0
 Told A = A → (next : ℕ) → Text
 
--- WHAT A SCAN ANSWERS: what the definition reads from `at` on, as words and the index behind it; or the number of its refusal, at whichever tag
-abbrev pub scanned : {A : Type 0} → Told A → (size : ℕ) → Answer (A × List ℕ) → Scan
-scanned told size (ok (x, rest)) = Scan.Is (told x (size - length rest))
-scanned told size (refused c at) = Scan.Not c
+-- the paper's number and values for each case of the enum, the tag standing at an index that the caller knows:
+-- "A refusal returns its number and a position"; of 2, 3 and 5 that is the letter's
+abbrev pub scanAnswer : (at : ℕ) → Scan → Answer Text
+scanAnswer at (Scan.Is x) = ok x
+scanAnswer at (Scan.Not c) = refused c at
 
-unfoldable pub scanOf : {A : Type 0} → Reader A → Told A → (s : List ℕ) → (at : ℕ) → Scan
-scanOf read told s at = scanned told (length s) (read 0 (drop at s))
+-- WHAT A SCAN ANSWERS behind a tag at `l`: what is read from `at` on, as words and the index behind it
+unfoldable pub textAnswer : {A : Type 0} → Reader A → Told A → (s : List ℕ) → (at l : ℕ) → Answer Text
+textAnswer read told s at l = read l (drop at s) >>= λ (x, rest). ok (told x (length s - length rest))
 
 -- a text from `at` on: what is read of it, that it tells that, and where it ends
 pub record Found {A : Type 0} (read : Reader A) (told : Told A) (s : List ℕ) (at : ℕ) (t : Text) : Type 0 where
@@ -39,14 +41,14 @@ pub record Found {A : Type 0} (read : Reader A) (told : Told A) (s : List ℕ) (
   pub on : at < t .next
   pub inside : t .next ≤ length s
 
--- the same for those who go on reading: what is read, wherever the tag stands
-pub data Scans {A : Type 0} (read : Reader A) (told : Told A) (s : List ℕ) (at : ℕ) : Scan → Type 0 where
-  found : (t : Text) → Found read told s at t → Scans read told s at (Scan.Is t)
-  unfit : (c : ℕ) → ((l : ℕ) → read l (drop at s) ≡ refused c l) → Scans read told s at (Scan.Not c)
+-- the same for those who go on reading: what is read of a text that was found; and reading refuses one that was refused
+pub record Scans {A : Type 0} (read : Reader A) (told : Told A) (s : List ℕ) (at : ℕ) (r : Scan) : Type 0 where
+  pub found : (l : ℕ) (t : Text) → scanAnswer l r ≡ ok t → Found read told s at t
+  pub unfit : (l c : ℕ) → scanAnswer l r ≡ refused c l → read l (drop at s) ≡ refused c l
 
--- the promise of each scan
+-- the promise of each scan, wherever the tag stands
 pub record Answers {A : Type 0} (read : Reader A) (told : Told A) (s : List ℕ) (at : ℕ) (r : Scan) : Type 0 where
-  pub answer : r ≡ scanOf read told s at
+  pub answer : (l : ℕ) → scanAnswer l r ≡ textAnswer read told s at l
   pub scans : Scans read told s at r
 
 -- ---- the texts that are part of a text of `Read`

@@ -3,6 +3,7 @@ use crate::Scan;
 use crate::Text;
 use bytes_at::byte_is;
 use floats::is_float;
+use format::codes::TEXT_UNFIT;
 ghost use Prim.Native.Nat.{_≤_, _<_};
 ghost use lib.ListN.{length};
 ghost use Rattle.format.specs.Read.{floatText};
@@ -29,15 +30,15 @@ pub(crate) fn float(source: &[u8], at: usize) -> Scan
     ensures { λ r. ⌜ Answers floatText (floatTold at) (now (source .entry)) at r ⌝ }
 {
     if !byte_is(source, at, b':') {
-        return Scan::Not(2);
+        return Scan::Not(TEXT_UNFIT);
     }
     let from = at + 1;
     let end = semicolon_at(source, from);
     if !is_float(&source[from..end]) {
-        return Scan::Not(2);
+        return Scan::Not(TEXT_UNFIT);
     }
     if source.len() <= end {
-        return Scan::Not(2);
+        return Scan::Not(TEXT_UNFIT);
     }
     Scan::Is(Text {
         content: from as u64,

@@ -4,6 +4,7 @@ use crate::Text;
 use crate::number::count;
 use crate::quoted::quoted;
 use bytes_at::byte_is;
+use format::codes::TEXT_UNFIT;
 ghost use mathlib.Core.Bool.{true, false};
 ghost use Rattle.scanner.specs.Scans.{Answers, headText, headTold};
 
@@ -12,7 +13,7 @@ pub fn array(source: &[u8], at: usize) -> Scan
     ensures { λ r. ⌜ Answers (headText true) (headTold at) (now (source .entry)) at r ⌝ }
 {
     if !byte_is(source, at, b':') {
-        return Scan::Not(2);
+        return Scan::Not(TEXT_UNFIT);
     }
     count(source, at + 1)
 }

@@ -11,6 +11,7 @@ use crate::quoted::quoted;
 use crate::scalar::STRING_END;
 use crate::scalar::scalar;
 use bytes_at::byte_is;
+use format::codes::TEXT_UNFIT;
 use format::kind::Kind;
 ghost use mathlib.Core.Path.{_≡_};
 ghost use Rattle.scanner.specs.Scans.{Answers, scalarBehind, scalarTold};
@@ -36,7 +37,7 @@ fn unsigned(source: &[u8], at: usize) -> Scan
     ensures { λ r. ⌜ Sure (scalarBehind 105) (scalarTold at) (now (source .entry)) at r ⌝ }
 {
     if !byte_is(source, at, b':') {
-        return Scan::Not(2);
+        return Scan::Not(TEXT_UNFIT);
     }
     magnitude(source, at + 1, false, POSITIVE_LIMIT)
 }
@@ -46,12 +47,12 @@ fn plain(source: &[u8], at: usize) -> Scan
     ensures { λ r. ⌜ Sure (scalarBehind 100) (scalarTold at) (now (source .entry)) at r ⌝ }
 {
     if !byte_is(source, at, b':') {
-        return Scan::Not(2);
+        return Scan::Not(TEXT_UNFIT);
     }
     let from = at + 1;
     let end = plain_end(source, from);
     if end <= from {
-        return Scan::Not(2);
+        return Scan::Not(TEXT_UNFIT);
     }
     let size = end - from;
     let next = end + 1;

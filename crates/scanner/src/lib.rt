@@ -3,8 +3,8 @@
 // Public are `scalar`, `named` (the ordinal of a reference), `array` and `object` (heads), and `key` and `value` (`scalar` in line: see in_line.rt); the texts
 // of single kinds are private. Reader, tokens and placing call them. A key is scanned as the scalar that it would be, once its tag was looked at: keys and
 // values have one definition of their texts, `scalarBehind`.
-// One shape of promise (`Answers`): the answer is what the definition reads from that index on, as words 2, 3 and 4 of the node (`scanOf`); and, for those who
-// go on reading, what was read, wherever the tag stands (`Scans`).
+// One shape of promise (`Answers`): the answer (`scanAnswer`) is what the definition reads from that index on, as words 2, 3 and 4 of the node (`textAnswer`);
+// and, for those who go on reading, what was read (`Scans`); both wherever the tag stands.
 mod flag;
 mod float;
 pub mod head;

@@ -3,6 +3,8 @@ use crate::Scan;
 use crate::Text;
 use bytes_at::byte_is;
 use bytes_at::bytes_are;
+use format::codes::OUT_OF_RANGE;
+use format::codes::TEXT_UNFIT;
 use format::limits::NUMBER_LIMIT;
 ghost use Prim.Native.Nat.{_-_, _<_, _^_};
 ghost use Rattle.format.specs.Read.{intText};
@@ -23,10 +25,10 @@ pub(crate) fn digits(source: &[u8], at: usize, top: u64) -> Scan
     let next = run.next;
     let value = run.value;
     if next == at {
-        return Scan::Not(2);
+        return Scan::Not(TEXT_UNFIT);
     }
     if top < value {
-        return Scan::Not(5);
+        return Scan::Not(OUT_OF_RANGE);
     }
     Scan::Is(Text {
         content: value,
@@ -47,7 +49,7 @@ pub(crate) fn magnitude(source: &[u8], at: usize, negative: bool, top: u64) -> S
     };
     let next = run.next;
     if !byte_is(source, next, b';') {
-        return Scan::Not(2);
+        return Scan::Not(TEXT_UNFIT);
     }
     Scan::Is(Text {
         content: decimal::pattern_of(negative, run.content),
@@ -94,7 +96,7 @@ pub(crate) fn int(source: &[u8], at: usize) -> Scan
     ensures { λ r. ⌜ Answers intText literalTold (now (source .entry)) at r ⌝ }
 {
     if !byte_is(source, at, b':') {
-        return Scan::Not(2);
+        return Scan::Not(TEXT_UNFIT);
     }
     let front = sign_at(source, at + 1);
     magnitude(source, front.from, front.negative, front.top)
@@ -110,7 +112,7 @@ pub(crate) fn count(source: &[u8], at: usize) -> Scan
     };
     let next = run.next;
     if !bytes_are(source, next, b':', b'{') {
-        return Scan::Not(2);
+        return Scan::Not(TEXT_UNFIT);
     }
     Scan::Is(Text {
         content: 0,
@@ -125,7 +127,7 @@ pub fn named(source: &[u8], at: usize) -> Scan
     ensures { λ r. ⌜ Answers namedText valueTold (now (source .entry)) at r ⌝ }
 {
     if !byte_is(source, at, b':') {
-        return Scan::Not(2);
+        return Scan::Not(TEXT_UNFIT);
     }
     let scan = digits(source, at + 1, NUMBER_LIMIT);
     let Scan::Is(run) = scan else {
@@ -133,7 +135,7 @@ pub fn named(source: &[u8], at: usize) -> Scan
     };
     let next = run.next;
     if !byte_is(source, next, b';') {
-        return Scan::Not(2);
+        return Scan::Not(TEXT_UNFIT);
     }
     Scan::Is(Text {
         content: run.content,

@@ -4,6 +4,7 @@ use crate::Text;
 use crate::number::digits;
 use bytes_at::byte_is;
 use bytes_at::bytes_are;
+use format::codes::TEXT_UNFIT;
 use format::limits::NUMBER_LIMIT;
 ghost use mathlib.Core.List.{[], _∷_};
 ghost use Rattle.format.specs.Bytes.{byte};
@@ -15,7 +16,7 @@ pub(crate) fn quoted(source: &[u8], at: usize, close: u8) -> Scan
     ensures { λ r. ⌜ Answers (λ l. quotedText l (byte "\"" ∷ close ∷ [])) (quotedTold at) (now (source .entry)) at r ⌝ }
 {
     if !byte_is(source, at, b':') {
-        return Scan::Not(2);
+        return Scan::Not(TEXT_UNFIT);
     }
     let scan = digits(source, at + 1, NUMBER_LIMIT);
     let Scan::Is(run) = scan else {
@@ -23,16 +24,16 @@ pub(crate) fn quoted(source: &[u8], at: usize, close: u8) -> Scan
     };
     let colon = run.next;
     if !bytes_are(source, colon, b':', b'"') {
-        return Scan::Not(2);
+        return Scan::Not(TEXT_UNFIT);
     }
     let offset = colon + 2;
     let size = run.content as usize;
     if source.len() - offset < size {
-        return Scan::Not(2);
+        return Scan::Not(TEXT_UNFIT);
     }
     let end = offset + size;
     if !bytes_are(source, end, b'"', close) {
-        return Scan::Not(2);
+        return Scan::Not(TEXT_UNFIT);
     }
     Scan::Is(Text {
         content: offset as u64,

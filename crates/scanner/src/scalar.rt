@@ -5,6 +5,7 @@ use crate::flag::null;
 use crate::float::float;
 use crate::number::int;
 use crate::quoted::quoted;
+use format::codes::TAG_UNKNOWN;
 use format::kind::Kind;
 ghost use Rattle.scanner.specs.Scans.{Answers, scalarBehind, scalarTold};
 
@@ -21,6 +22,6 @@ pub fn scalar(source: &[u8], at: usize, tag: u8) -> Scan
         Kind::INT => int(source, at),
         Kind::FLOAT => float(source, at),
         Kind::STRING => quoted(source, at, STRING_END),
-        _ => Scan::Not(3),
+        _ => Scan::Not(TAG_UNKNOWN),
     }
 }

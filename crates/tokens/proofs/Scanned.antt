@@ -13,14 +13,14 @@ use Rattle.format.specs.Bytes.{byte}
 use Rattle.format.specs.Kind.{Kind, tag}
 use Rattle.format.specs.Syntax.{objectRef, variableRef}
 use Rattle.scanner.specs.declared.Scan.{Scan}
-use Rattle.scanner.specs.Scans.{Scans, found, unfit, namedText, scalarBehind, headText, tell, valueTold, scalarTold, headTold}
-use Rattle.scanner.proofs.Numbers.{scans-map}
+use Rattle.scanner.specs.Scans.{Scans, namedText, scalarBehind, headText, tell, valueTold, scalarTold, headTold}
+use Rattle.scanner.proofs.Numbers.{scans-is, scans-not, scans-from, scans-map}
 use Rattle.tokens.specs.Tokens.{scalar, closing, openingOf, referenceOf, tokenBehind, readToken, tokenTold}
 
 module _ (s : List ℕ) (at : ℕ) where
   pub token-none : length s ≤ at → Scans readToken (tokenTold at) s at (Scan.Not 2)
   unfolding readToken
-  token-none h = unfit 2 (λ l. rw (drop-of-length-le s {i = at} h))
+  token-none h = scans-not 2 (λ l. rw (drop-of-length-le s {i = at} h))
 
   module _ (b : ℕ) (h : at < length s) (e : getD s at 0 ≡ b) where
     tagged : drop at s ≡ b ∷ drop (at + 1) s
@@ -29,12 +29,11 @@ module _ (s : List ℕ) (at : ℕ) where
     -- a tag, and what follows it
     behind : (r : Scan) → Scans (tokenBehind b) (tokenTold at) s (at + 1) r → Scans readToken (tokenTold at) s at r
     unfolding readToken
-    behind r (found t f) = found t record { what = f .what; is = λ l. rw tagged (f .is l); tells = f .tells; on = omega (arith, f .on); inside = f .inside }
-    behind r (unfit c f) = unfit c (λ l. rw tagged (f l))
+    behind r h = scans-from h (omega arith) (λ l. rw tagged)
 
     pub token-closing : b ≡ byte "}" → Scans readToken (tokenTold at) s at (Scan.Is (tell 0 0 0 (at + 1)))
     unfolding readToken tokenBehind
-    token-closing i = found (tell 0 0 0 (at + 1)) record { what = closing; is = λ l. rw (tagged, i); tells = refl; on = omega arith; inside = omega arith }
+    token-closing i = scans-is (tell 0 0 0 (at + 1)) record { what = closing; is = λ l. rw (tagged, i); tells = refl; on = omega arith; inside = omega arith }
 
     module _ (r : Scan) where
       pub token-array : b ≡ tag Kind.array → Scans (headText true) (headTold (at + 1)) s (at + 1) r → Scans readToken (tokenTold at) s at r

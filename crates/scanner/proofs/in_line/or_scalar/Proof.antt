@@ -1,7 +1,8 @@
 -- `scanner::in_line::or_scalar` meets its contract. Assumes nothing.
 use borrow.Author.Needs.{needs}
-use Rattle.scanner.specs.Scans.{found}
-use Rattle.scanner.proofs.Numbers.{answered}
+use mathlib.Core.Path.{ap}
+use Rattle.scanner.specs.Scans.{scanAnswer}
+use Rattle.scanner.proofs.Numbers.{scans-is, answered}
 use Rattle.scanner.proofs.Scalars as scalars
 use Rattle.scanner.proofs.in_line.or_scalar.Statement.{statement}
 use Rattle.scanner.proofs.in_line.or_scalar.Tie as tie
@@ -22,7 +23,7 @@ returns : tie.Need-returns
 returns c =
     let told = c .before in
     let start = told .before .before .before in
-    answered (found _ (start .pre .text _ (told .scan .given .1)))
+    answered (scans-is _ (start .pre .found 0 _ (ap (scanAnswer 0) (told .scan .given .1))))
 
 returns-2 : tie.Need-returns-2
 returns-2 c = scalars.made (c .anew .ensures) (c .before .scalar .ensures)

@@ -5,8 +5,8 @@ use lib.Dec.{lit<}
 use borrow.Author.Needs.{needs}
 use borrow.Author.Tests.{not-false}
 use Rattle.format.specs.Bytes.{byte}
+use Rattle.format.proofs.Answers.{not-both}
 use Rattle.bytes_at.proofs.BytesAt.{byte-there}
-use Rattle.scanner.proofs.Numbers.{not-text, found-of}
 use Rattle.scanner.proofs.Floats as floats
 use Rattle.scanner.proofs.Scalars as scalars
 use Rattle.scanner.proofs.in_line.plain.Statement.{statement}
@@ -16,7 +16,7 @@ byte-is-requires : tie.Need-byte-is-requires
 byte-is-requires c κs = search needs
 
 returns : tie.Need-returns
-returns c = record { text = λ x e. absurd (not-text e) }
+returns c = record { found = λ l t e. absurd (not-both e) }
 
 add-from : tie.Need-add-from
 add-from c = omega (arith, byte-there _ _ (byte ":") (lit< tt) (sym (c .before .byte-is .ensures) ∙ not-false _ (c .if1 .left)))
@@ -25,7 +25,7 @@ plain-end-requires : tie.Need-plain-end-requires
 plain-end-requires c κs = search needs
 
 returns-2 : tie.Need-returns-2
-returns-2 c = record { text = λ x e. absurd (not-text e) }
+returns-2 c = record { found = λ l t e. absurd (not-both e) }
 
 sub-size : tie.Need-sub-size
 sub-size c = search needs
@@ -39,7 +39,7 @@ returns-3 c =
     let past = ended .before in
     let p = ended .plain-end .ensures (omega (arith, c .if2 .left)) in
     let colon = sym (past .before .byte-is .ensures) ∙ not-false _ (past .if1 .left) in
-    record { text = λ x e. found-of (scalars.scalar-float _ _ _ _ refl (floats.float-is _ _ colon _ (p .semicolon) (p .float) _ refl _ refl (p .inside))) e }
+    record { found = scalars.scalar-float _ _ _ _ refl (floats.float-is _ _ colon _ (p .semicolon) (p .float) _ refl _ refl (p .inside)) .found }
 
 pub plain-spec : {M : Type 1} → statement M
 plain-spec =

@@ -5,8 +5,9 @@ use lib.Dec.{lit<}
 use borrow.Author.Needs.{needs}
 use borrow.Author.Tests.{not-false}
 use Rattle.format.specs.Bytes.{byte}
+use Rattle.format.proofs.Answers.{not-both}
 use Rattle.bytes_at.proofs.BytesAt.{byte-there}
-use Rattle.scanner.proofs.Numbers.{not-text, found-of, int-unsigned}
+use Rattle.scanner.proofs.Numbers.{int-unsigned}
 use Rattle.scanner.proofs.Scalars as scalars
 use Rattle.scanner.proofs.in_line.unsigned.Statement.{statement}
 use Rattle.scanner.proofs.in_line.unsigned.Tie as tie
@@ -15,7 +16,7 @@ byte-is-requires : tie.Need-byte-is-requires
 byte-is-requires c κs = search needs
 
 returns : tie.Need-returns
-returns c = record { text = λ x e. absurd (not-text e) }
+returns c = record { found = λ l t e. absurd (not-both e) }
 
 add-magnitude : tie.Need-add-magnitude
 add-magnitude c = omega (arith, byte-there _ _ (byte ":") (lit< tt) (sym (c .before .byte-is .ensures) ∙ not-false _ (c .if1 .left)))
@@ -27,7 +28,7 @@ returns-2 : tie.Need-returns-2
 returns-2 c =
     let past = c .before in
     let colon = sym (past .before .byte-is .ensures) ∙ not-false _ (past .if1 .left) in
-    record { text = λ x e. found-of (scalars.scalar-int _ _ _ _ refl (int-unsigned _ _ colon _ (c .magnitude .ensures) x e)) e }
+    record { found = λ l t e. scalars.scalar-int _ _ _ _ refl (int-unsigned _ _ colon _ (c .magnitude .ensures) l t e) .found l t e }
 
 pub unsigned-spec : {M : Type 1} → statement M
 unsigned-spec =
