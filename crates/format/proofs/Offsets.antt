@@ -86,11 +86,11 @@ at n v ps = pair (intKey (record { sign = unsigned; zeros = 0; magnitude = n }))
 abbrev twice : Value
 twice = branch (record { container = array; spelling = record { zeros = 0 } }) (at 0 (text (bytes "a")) (at 1 (text (bytes "a")) none))
 
-empty-printed : print (text []) ≡ bytes "s:0:\"\";"
+pub empty-printed : print (text []) ≡ bytes "s:0:\"\";"
 unfolding write decimal decimalIn
 empty-printed = refl
 
-twice-printed : print twice ≡ bytes "a:2:{i:0;s:1:\"a\";i:1;s:1:\"a\";}"
+pub twice-printed : print twice ≡ bytes "a:2:{i:0;s:1:\"a\";i:1;s:1:\"a\";}"
 unfolding write decimal decimalIn
 twice-printed = refl
 

@@ -115,7 +115,7 @@ module _ (source : List ℕ) (rows : List Node) where
     ShowsIn i none = Unit {0}
     ShowsIn i (pair k v ps) = ShowsKey i k × Shows (suc i) v × ShowsIn (nodeAt rows (suc i) .end) ps
 
--- what stands between a tag and the quoted text behind it, the tag with it: letter, `:`, number, `:"`
+-- from its tag on, what stands before a quoted text: letter, `:`, number, `:"`
 abbrev pub opening : Kind → Quoted → List ℕ
 opening k q = tag k ∷ byte ":" ∷ writeNumber (q .spelling) (length (q .text)) (byte ":" ∷ byte "\"" ∷ [])
 
@@ -125,7 +125,7 @@ module _ (source : List ℕ) (rows : List Node) where
     pub offset : nodeAt rows i .content ≡ length before
     pub stands : Begins source 0 (before ++ text)
 
-  -- of each text; `before` is what stands before the tag
+  -- the text of a key, a scalar or a head, if it has one: `before` is all that stands before its tag
   abbrev pub PlacedKey : (i : ℕ) → (before : List ℕ) → Key → Type 0
   PlacedKey i before (intKey x) = Unit {0}
   PlacedKey i before (stringKey q) = TextBehind i (before ++ opening Kind.string q) (q .text)
@@ -141,7 +141,7 @@ module _ (source : List ℕ) (rows : List Node) where
   PlacedContainer i before array = Unit {0}
   PlacedContainer i before (object q) = TextBehind i (before ++ opening Kind.object q) (q .text)
 
-  -- of the texts of a value whose node is i, and of its pairs'
+  -- the texts of the value at node i: its own, then those of its pairs
   abbrev mutual
     pub Placed : (i : ℕ) → (before : List ℕ) → Value → Type 0
     Placed i before (leaf x) = PlacedScalar i before x
