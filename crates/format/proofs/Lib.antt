@@ -18,4 +18,5 @@ pub mod OneText
 pub mod NormalTable
 pub mod Words
 pub mod Tables
+pub mod Offsets
 pub mod Results

@@ -1,51 +1,39 @@
 -- The table says the meaning, each reference resolved. Assumes nothing.
 use mathlib.Core.Path.{_≡_, refl, sym, ap, ap₂, _∙_, subst}
-use mathlib.Core.List.{List, [], _∷_, _++_, map, map-append, append-nil}
+use mathlib.Core.List.{List, [], _∷_, _++_, map, map-append, append-assoc}
 use mathlib.Core.Bool.{Bool, true, false}
 use Prim.Native.Nat.{ℕ, suc, _+_, _-_, _≤_, _<_}
 use native.Mathlib.Omega.{arith}
-use lib.ListN.{length, getD, take, drop, List·getD-map}
+use lib.ListN.{length, getD, drop, List·getD-map, take-append-drop}
+use lib.Seq.{take-append-seam, drop-append-seam}
 use Rattle.format.specs.Kind.{Kind, tag}
 use Rattle.format.specs.Tree.{leaf, ref, branch, none, pair, TreePath, count, nodes, nodesIn, only, one, ordinals, ordinalsIn, paths, pathsIn, mapTree}
 use Rattle.format.specs.Tree.{mapPairs}
 use Rattle.format.specs.Syntax.{intKey, stringKey, null, bool, int, float, string, array, object, mapContainer, Literal, Quoted, Key, Scalar, Container}
-use Rattle.format.specs.Syntax.{RefKind, objectRef, variableRef, refKind, Reference, Value, Values, own, writeKey, writeScalar, writeContainer}
-use Rattle.format.specs.Syntax.{writeNumber, write, writePairs, print}
+use Rattle.format.specs.Syntax.{RefKind, objectRef, variableRef, refKind, Reference, Value, Values, own, print}
 use Rattle.format.specs.Keys.{integer, keyMeaning}
 use Rattle.format.specs.Fits.{IntFits, KeyFits, ScalarFits, Sound, SoundIn, Valid}
 use Rattle.format.specs.Meaning.{meaning, scalarMeaning, headMeaning, referenceMeaning}
 use Rattle.format.specs.Table.{Node, word, keyNode, scalarNode, branchNode, taken, refNode, table, indices, indicesIn, targetOf, tableOf, pairsOffset}
 use Rattle.format.specs.Table.{valueOffset, nextOffset}
 use Rattle.format.specs.Shows.{integerOf, Pattern, upFrom, nodeAt, pairAt, follow, Row, WithOrdinal, Text, ShowsKey, ShowsScalar, ShowsHead, Taking}
-use Rattle.format.specs.Shows.{ShowsReference, Shows, ShowsIn}
+use Rattle.format.specs.Shows.{ShowsReference, Shows, ShowsIn, TextBehind, PlacedKey, PlacedScalar, PlacedContainer, Placed, PlacedIn, Says}
 use Rattle.format.proofs.Words.{word-back}
 use Rattle.format.proofs.Maps.{Refs, RefsIn, refs-map, count-map, nodesIn-map}
 use Rattle.format.proofs.OneText.{Taken, refs-taken}
-use Rattle.format.proofs.Rows.{at-first, scalar-carries, branch-carries}
+use Rattle.format.proofs.Rows.{scalar-carries, branch-carries}
 use Rattle.format.proofs.Ordinals.{up-append, up-at}
-use Rattle.format.proofs.Places.{InTable, PairsInTable, contents-in, first-in, others-in, contents-text, value-text, others-text, quoted-text}
-use Rattle.format.proofs.Places.{float-text}
+use Rattle.format.proofs.Places.{InTable, PairsInTable, firstNode, node-is, contents-in, key-is, first-in, others-in, whole, offsets-stand}
 
 module _ (rows : List Node) (to : ℕ → ℕ) where
-  -- ---- the first node of a value
-  abbrev firstNode : (o i n : ℕ) → Value → Node
-  firstNode o i n (leaf x) = scalarNode o i n x
-  firstNode o i n (ref r) = refNode (to (r .named)) i n r
-  firstNode o i n (branch h ps) = branchNode o n (h .container) (count ps) (i + suc (nodesIn ps))
-
-  node-is : (v : Value) (o i n : ℕ) → InTable rows to o i n v → nodeAt rows i ≡ firstNode o i n v
-  node-is (leaf x) o i n t = at-first rows i (scalarNode o i n x) (t .rest) _ (t .here)
-  node-is (ref r) o i n t = at-first rows i (refNode (to (r .named)) i n r) (t .rest) _ (t .here)
-  node-is (branch h ps) o i n t = at-first rows i (firstNode o i n (branch h ps)) _ _ (t .here)
-
-  first-end : (v : Value) (o i n : ℕ) → firstNode o i n v .end ≡ i + nodes v
+  first-end : (v : Value) (o i n : ℕ) → firstNode rows to o i n v .end ≡ i + nodes v
   first-end (leaf x) o i n = scalar-carries o i n x .end ∙ omega arith
   first-end (ref r) o i n = omega arith
   first-end (branch h ps) o i n = branch-carries o n (h .container) (count ps) (i + suc (nodesIn ps)) .end
 
   -- word 5: "index of the first node after this one and all it holds"
   pub end-is : (v : Value) (o i n : ℕ) → InTable rows to o i n v → nodeAt rows i .end ≡ i + nodes v
-  end-is v o i n t = ap (λ (x : Node). x .end) (node-is v o i n t) ∙ first-end v o i n
+  end-is v o i n t = ap (λ (x : Node). x .end) (node-is rows to v o i n t) ∙ first-end v o i n
 
   -- ---- following the paths of the numbered values leads to the nodes that carry the numbers
   map-only : (b : Bool) (i : ℕ) → map (follow rows i) (only b []) ≡ only b i
@@ -85,10 +73,10 @@ module _ (rows : List Node) (to : ℕ → ℕ) where
 
   mutual
     indices-carry : (v : Value) (o i n : ℕ) → InTable rows to o i n v → map ordinalAt (indices i v) ≡ upFrom n (ordinals own v)
-    indices-carry (leaf x) o i n t = only-ordinal true i n (ap (λ (y : Node). y .ordinal) (node-is (leaf x) o i n t) ∙ scalar-carries o i n x .ordinal)
-    indices-carry (ref r) o i n t = only-ordinal (own r) i n (ap (λ (y : Node). y .ordinal) (node-is (ref r) o i n t))
+    indices-carry (leaf x) o i n t = only-ordinal true i n (ap (λ (y : Node). y .ordinal) (node-is rows to (leaf x) o i n t) ∙ scalar-carries o i n x .ordinal)
+    indices-carry (ref r) o i n t = only-ordinal (own r) i n (ap (λ (y : Node). y .ordinal) (node-is rows to (ref r) o i n t))
     indices-carry (branch h ps) o i n t =
-        ap₂ {C = List ℕ} _∷_ (ap (λ (y : Node). y .ordinal) (node-is (branch h ps) o i n t)
+        ap₂ {C = List ℕ} _∷_ (ap (λ (y : Node). y .ordinal) (node-is rows to (branch h ps) o i n t)
         ∙ branch-carries o n (h .container) (count ps) (i + suc (nodesIn ps)) .ordinal)
         (indicesIn-carry ps (pairsOffset o h (count ps)) (suc i) (suc n) (contents-in rows to o i n h ps t))
 
@@ -126,46 +114,35 @@ module _ (rows : List Node) (to : ℕ → ℕ) where
     least : 1 ≤ r .named
 
 module _ (source : List ℕ) (rows : List Node) (to : ℕ → ℕ) where
-  -- a text at the offset that the node has
-  text-shown : (i : ℕ) (x : Node) (t : List ℕ) → nodeAt rows i ≡ x → take (length t) (drop (x .content) source) ≡ t → Text source rows i t
-  text-shown i x t e h = ap (λ (j : ℕ). take (length t) (drop j source)) (content-is rows to i x e) ∙ h
+  -- a text that stands behind other bytes, at the offset that is their length
+  text-shown : (i : ℕ) (b t : List ℕ) → TextBehind source rows i b t → Text source rows i t
+  text-shown i b t p =
+      let rest : List ℕ = drop (length (b ++ t)) source in
+      let split : source ≡ b ++ (t ++ rest) =
+      sym (take-append-drop (length (b ++ t)) source) ∙ ap (λ (x : List ℕ). x ++ rest) (p .stands) ∙ append-assoc b t rest in
+      let here : drop (nodeAt rows i .content) source ≡ t ++ rest =
+      ap (λ (j : ℕ). drop j source) (p .offset) ∙ ap (drop (length b)) split ∙ drop-append-seam b (t ++ rest) in
+      rw here (take-append-seam t rest)
 
   int-shown : (i : ℕ) (x : Literal) → nodeAt rows i .content ≡ word (integer x) → IntFits x → Pattern rows i (integer x)
   int-shown i x e f = (e, ap integerOf e ∙ word-back x f)
 
-  key-shown : (k : Key) (o i : ℕ) (r : List ℕ) → nodeAt rows i ≡ keyNode o i k → KeyFits k → drop o source ≡ writeKey k r
-      → ShowsKey source rows i (keyMeaning k)
-  key-shown (intKey x) o i r e f s = (row-is rows to i Kind.int _ e refl, ordinal-is rows to i _ e, int-shown i x (content-is rows to i _ e) f)
-  key-shown (stringKey q) o i r e f s = (
-    row-is rows to i Kind.string _ e refl,
-    ordinal-is rows to i _ e,
-    text-shown i _ (q .text) e (quoted-text source o 115 q (59 ∷ r) s),
-  )
+  key-shown : (k : Key) (o i : ℕ) (b : List ℕ) → nodeAt rows i ≡ keyNode o i k → KeyFits k → PlacedKey source rows i b k → ShowsKey source rows i (keyMeaning k)
+  key-shown (intKey x) o i b e f p = (row-is rows to i Kind.int _ e refl, ordinal-is rows to i _ e, int-shown i x (content-is rows to i _ e) f)
+  key-shown (stringKey q) o i b e f p = (row-is rows to i Kind.string _ e refl, ordinal-is rows to i _ e, text-shown i _ (q .text) p)
 
-  scalar-shown : (x : Scalar) (o i n : ℕ) (r : List ℕ) → nodeAt rows i ≡ scalarNode o i n x → 1 ≤ n → ScalarFits x → drop o source ≡ writeScalar x r
+  scalar-shown : (x : Scalar) (o i n : ℕ) (b : List ℕ) → nodeAt rows i ≡ scalarNode o i n x → 1 ≤ n → ScalarFits x → PlacedScalar source rows i b x
       → ShowsScalar source rows i (scalarMeaning x)
-  scalar-shown null o i n r e h f s = (row-is rows to i Kind.null _ e refl, with-ordinal rows to i _ e h, content-is rows to i _ e)
-  scalar-shown (bool b) o i n r e h f s = (row-is rows to i Kind.bool _ e refl, with-ordinal rows to i _ e h, content-is rows to i _ e)
-  scalar-shown (int x) o i n r e h f s = (row-is rows to i Kind.int _ e refl, with-ordinal rows to i _ e h, int-shown i x (content-is rows to i _ e) f)
-  scalar-shown (float t) o i n r e h f s = (
-    row-is rows to i Kind.float _ e refl,
-    with-ordinal rows to i _ e h,
-    text-shown i _ t e (float-text source o 100 t r s),
-  )
-  scalar-shown (string q) o i n r e h f s = (
-    row-is rows to i Kind.string _ e refl,
-    with-ordinal rows to i _ e h,
-    text-shown i _ (q .text) e (quoted-text source o 115 q (59 ∷ r) s),
-  )
+  scalar-shown null o i n b e h f p = (row-is rows to i Kind.null _ e refl, with-ordinal rows to i _ e h, content-is rows to i _ e)
+  scalar-shown (bool c) o i n b e h f p = (row-is rows to i Kind.bool _ e refl, with-ordinal rows to i _ e h, content-is rows to i _ e)
+  scalar-shown (int x) o i n b e h f p = (row-is rows to i Kind.int _ e refl, with-ordinal rows to i _ e h, int-shown i x (content-is rows to i _ e) f)
+  scalar-shown (float t) o i n b e h f p = (row-is rows to i Kind.float _ e refl, with-ordinal rows to i _ e h, text-shown i _ t p)
+  scalar-shown (string q) o i n b e h f p = (row-is rows to i Kind.string _ e refl, with-ordinal rows to i _ e h, text-shown i _ (q .text) p)
 
-  head-shown : (c : Container) (o i n pairs e : ℕ) (r : List ℕ) → nodeAt rows i ≡ branchNode o n c pairs e → 1 ≤ n → drop o source ≡ writeContainer c r
+  head-shown : (c : Container) (o i n pairs e : ℕ) (b : List ℕ) → nodeAt rows i ≡ branchNode o n c pairs e → 1 ≤ n → PlacedContainer source rows i b c
       → ShowsHead source rows i pairs e (mapContainer (λ (q : Quoted). q .text) c)
-  head-shown array o i n pairs e r p h s = (row-is rows to i Kind.array _ p refl, with-ordinal rows to i _ p h, content-is rows to i _ p)
-  head-shown (object q) o i n pairs e r p h s = (
-    row-is rows to i Kind.object _ p refl,
-    with-ordinal rows to i _ p h,
-    text-shown i _ (q .text) p (quoted-text source o 79 q (58 ∷ r) s),
-  )
+  head-shown array o i n pairs e b x h p = (row-is rows to i Kind.array _ x refl, with-ordinal rows to i _ x h, content-is rows to i _ x)
+  head-shown (object q) o i n pairs e b x h p = (row-is rows to i Kind.object _ x refl, with-ordinal rows to i _ x h, text-shown i _ (q .text) p)
 
   -- where `env` gives the paths of the ordinals
   module _ (env : List TreePath) where
@@ -187,36 +164,33 @@ module _ (source : List ℕ) (rows : List Node) (to : ℕ → ℕ) where
         }
 
     mutual
-      unfolding write
-
-      shows : (v : Value) (o i n : ℕ) (r : List ℕ) → InTable rows to o i n v → 1 ≤ n → Sound v → drop o source ≡ write v r → Refs (Resolved rows to env) v
+      shows : (v : Value) (o i n : ℕ) (b : List ℕ) → InTable rows to o i n v → 1 ≤ n → Sound v → Placed source rows i b v → Refs (Resolved rows to env) v
           → Shows source rows i (mapTree keyMeaning scalarMeaning headMeaning (referenceMeaning env) v)
-      shows (leaf x) o i n r t h f s g = scalar-shown x o i n r (node-is rows to (leaf x) o i n t) h f s
-      shows (ref x) o i n r t h f s g = reference-shown x i n (node-is rows to (ref x) o i n t) h g
-      shows (branch b ps) o i n r t h f s g = (
+      shows (leaf x) o i n b t h f p g = scalar-shown x o i n b (node-is rows to (leaf x) o i n t) h f p
+      shows (ref x) o i n b t h f p g = reference-shown x i n (node-is rows to (ref x) o i n t) h g
+      shows (branch d ps) o i n b t h f p g = (
         rw (
           count-map keyMeaning scalarMeaning headMeaning (referenceMeaning env) ps,
           nodesIn-map keyMeaning scalarMeaning headMeaning (referenceMeaning env) ps,
         )
-            (head-shown (b .container) o i n (count ps) (i + suc (nodesIn ps)) (writeNumber (b .spelling) (count ps) (58 ∷ 123 ∷ writePairs ps (125 ∷ r)))
-            (node-is rows to (branch b ps) o i n t) h s),
-        showsIn ps (pairsOffset o b (count ps)) (suc i) (suc i) (suc n) (125 ∷ r) (contents-in rows to o i n b ps t) (omega arith) (b .container) [] (f .1)
-            (contents-text source o b (count ps) (writePairs ps (125 ∷ r)) s) g refl,
+            (head-shown (d .container) o i n (count ps) (i + suc (nodesIn ps)) b (node-is rows to (branch d ps) o i n t) h (p .0)),
+        showsIn ps (pairsOffset o d (count ps)) (suc i) (suc i) (suc n) _ (contents-in rows to o i n d ps t) (omega arith) (d .container) [] (f .1) (p .1) g
+            refl,
       )
 
       -- the index is what the node before says
-      showsIn : (ps : Values) (o i j n : ℕ) (r : List ℕ) → PairsInTable rows to o i n ps → 1 ≤ n → (c : Container) (earlier : List Key) → SoundIn c earlier ps
-          → drop o source ≡ writePairs ps r → RefsIn (Resolved rows to env) ps → j ≡ i
+      showsIn : (ps : Values) (o i j n : ℕ) (b : List ℕ) → PairsInTable rows to o i n ps → 1 ≤ n → (c : Container) (earlier : List Key) → SoundIn c earlier ps
+          → PlacedIn source rows i b ps → RefsIn (Resolved rows to env) ps → j ≡ i
           → ShowsIn source rows j (mapPairs keyMeaning scalarMeaning headMeaning (referenceMeaning env) ps)
-      showsIn none o i j n r t h c js f s g e = tt
-      showsIn (pair k v ps) o i j n r t h c js f s g e =
+      showsIn none o i j n b t h c js f p g e = tt
+      showsIn (pair k v ps) o i j n b t h c js f p g e =
           let w = first-in rows to o i n k v ps t in
           let next : nodeAt rows (suc i) .end ≡ suc (i + nodes v) = end-is rows to v (valueOffset o k) (suc i) n w ∙ omega arith in
           rw e (
-            key-shown k o i (write v (writePairs ps r)) (at-first rows i (keyNode o i k) _ _ (t .here)) (f .0) s,
-            shows v (valueOffset o k) (suc i) n (writePairs ps r) w h (f .3) (value-text source o k (write v (writePairs ps r)) s) (g .0),
-            showsIn ps (nextOffset o k v) (suc (i + nodes v)) (nodeAt rows (suc i) .end) (n + ordinals own v) r (others-in rows to o i n k v ps t)
-                (omega arith) c (k ∷ js) (f .4) (others-text source o k v (writePairs ps r) s) (g .1) next,
+            key-shown k o i b (key-is rows to o i n k v ps t) (f .0) (p .0),
+            shows v (valueOffset o k) (suc i) n _ w h (f .3) (p .1) (g .0),
+            showsIn ps (nextOffset o k v) (suc (i + nodes v)) (nodeAt rows (suc i) .end) (n + ordinals own v) _ (others-in rows to o i n k v ps t)
+                (omega arith) c (k ∷ js) (f .4) (p .2) (g .1) next,
           )
 
 -- ---- the whole table
@@ -224,17 +198,14 @@ module _ (v : Value) where
   abbrev rows : List Node
   rows = table (targetOf v) 0 0 1 v
 
-  pub whole : InTable rows (targetOf v) 0 0 1 v
-  whole = record { rest = []; here = sym (append-nil rows) }
-
   -- the index of an ordinal's node, by the ordinal's path; and that node carries it
   leads : (k : ℕ) → getD (indices 0 v) k 0 ≡ follow rows 0 (getD (paths own v) k [])
-  leads k = ap (λ (is : List ℕ). getD is k 0) (sym (paths-lead rows (targetOf v) v 0 0 1 whole)) ∙ List·getD-map (follow rows 0) (paths own v) k []
+  leads k = ap (λ (is : List ℕ). getD is k 0) (sym (paths-lead rows (targetOf v) v 0 0 1 (whole v))) ∙ List·getD-map (follow rows 0) (paths own v) k []
 
   carries : (k : ℕ) → k < ordinals own v → ordinalAt rows (targetOf v) (getD (indices 0 v) k 0) ≡ suc k
   carries k h =
       sym (List·getD-map (ordinalAt rows (targetOf v)) (indices 0 v) k 0)
-      ∙ ap (λ (ns : List ℕ). getD ns k (ordinalAt rows (targetOf v) 0)) (indices-carry rows (targetOf v) v 0 0 1 whole)
+      ∙ ap (λ (ns : List ℕ). getD ns k (ordinalAt rows (targetOf v) 0)) (indices-carry rows (targetOf v) v 0 0 1 (whole v))
       ∙ up-at 1 (ordinals own v) k (ordinalAt rows (targetOf v) 0) h ∙ omega arith
 
   resolved : (r : Reference) → Taken (ordinals own v) r → Resolved rows (targetOf v) (paths own v) r
@@ -245,9 +216,13 @@ module _ (v : Value) where
       (refs-taken (ordinals own v) v 0 (f .backward) (omega arith))
 
 -- Demand 2: "The table then holds its one meaning, each reference resolved."
-pub table-says : (v : Value) → Valid v → Shows (print v) (tableOf v) 0 (meaning v)
+pub table-says : (v : Value) → Valid v → Says (print v) (tableOf v) v
 unfolding tableOf meaning
-table-says v f = shows (print v) (tableOf v) (targetOf v) (paths own v) v 0 0 1 [] (whole v) (omega arith) (f .sound) refl (all-resolved v f)
+table-says v f =
+    record {
+      shown = shows (print v) (tableOf v) (targetOf v) (paths own v) v 0 0 1 [] (whole v) (omega arith) (f .sound) (offsets-stand v) (all-resolved v f);
+      placed = offsets-stand v;
+    }
 
 -- the number of the value at a path, in word 1 of its node: the path's place, from 1, among the paths of the values that take one
 pub path-ordinal : (v : Value) (k : ℕ) → k < ordinals own v → nodeAt (tableOf v) (follow (tableOf v) 0 (getD (paths own v) k [])) .ordinal ≡ suc k

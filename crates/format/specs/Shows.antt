@@ -1,19 +1,20 @@
 -- How a table is read: what its nodes and the plan's bytes say of a value, by the words that paper 01 lists.
 use mathlib.Core.Path.{_≡_}
-use mathlib.Core.List.{List, [], _∷_}
+use mathlib.Core.List.{List, [], _∷_, _++_}
 use mathlib.Core.Bool.{Bool, true, false}
 use Prim.Native.Nat.{ℕ, zero, suc, _+_, _≤_}
 use lib.Dec.{eqb}
 use lib.IntN.{ℤ, pos, negℤ}
 use Rattle.decimal.specs.Complement.{isNegative, magnitude}
 use lib.ListN.{length, getD, take, drop}
+use Rattle.format.specs.Bytes.{byte}
 use Rattle.format.specs.Kind.{Kind, tag}
-use Rattle.format.specs.Tree.{Pairs, none, pair, leaf, ref, branch, TreePath, count, nodesIn, one}
+use Rattle.format.specs.Tree.{Pairs, none, pair, leaf, ref, branch, TreePath, count, nodes, nodesIn, one}
 use Rattle.format.specs.Syntax.{intKey, stringKey, null, bool, int, float, string, array, object, RefKind, objectRef, variableRef, refKind}
-use Rattle.format.specs.Syntax.{Value, Values, writeNumber, writeKey, writeScalar, writeContainer, write}
+use Rattle.format.specs.Syntax.{Quoted, Key, Scalar, Container, Value, Values, writeNumber, writeKey, writeContainer, write}
 use Rattle.format.specs.Keys.{KeyMeaning}
-use Rattle.format.specs.Meaning.{Meaning, ScalarMeaning, HeadMeaning, ReferenceMeaning}
-use Rattle.format.specs.Table.{Node, word, pairsOffset, valueOffset, nextOffset}
+use Rattle.format.specs.Meaning.{Meaning, ScalarMeaning, HeadMeaning, ReferenceMeaning, meaning}
+use Rattle.format.specs.Table.{Node, word}
 
 -- the integer of a word, read back
 abbrev pub fromSign : (negative : Bool) → (magnitude : ℕ) → ℤ
@@ -83,19 +84,6 @@ module _ (rows : List Node) where
 abbrev pub Begins : (source : List ℕ) → (o : ℕ) → List ℕ → Type 0
 Begins source o t = take (length t) (drop o source) ≡ t
 
--- the parts of a syntax stand at the positions that the table's offsets are counted from
-module _ (source : List ℕ) where
-  abbrev mutual
-    pub Placed : (o : ℕ) → Value → Type 0
-    Placed o (leaf x) = Begins source o (writeScalar x [])
-    Placed o (ref r) = Begins source o (write (ref r) [])
-    Placed o (branch h ps) =
-        Begins source o (writeContainer (h .container) (writeNumber (h .spelling) (count ps) [])) × PlacedIn (pairsOffset o h (count ps)) ps
-
-    pub PlacedIn : (o : ℕ) → Values → Type 0
-    PlacedIn o none = Unit {0}
-    PlacedIn o (pair k v ps) = Begins source o (writeKey k []) × Placed (valueOffset o k) v × PlacedIn (nextOffset o k v) ps
-
 module _ (source : List ℕ) (rows : List Node) where
   -- word 2 as the offset of a text
   abbrev pub Text : (i : ℕ) → List ℕ → Type 0
@@ -126,3 +114,48 @@ module _ (source : List ℕ) (rows : List Node) where
     pub ShowsIn : (i : ℕ) → Pairs KeyMeaning ScalarMeaning HeadMeaning ReferenceMeaning → Type 0
     ShowsIn i none = Unit {0}
     ShowsIn i (pair k v ps) = ShowsKey i k × Shows (suc i) v × ShowsIn (nodeAt rows (suc i) .end) ps
+
+-- from its tag on, what stands before a quoted text: letter, `:`, number, `:"`
+abbrev pub opening : Kind → Quoted → List ℕ
+opening k q = tag k ∷ byte ":" ∷ writeNumber (q .spelling) (length (q .text)) (byte ":" ∷ byte "\"" ∷ [])
+
+module _ (source : List ℕ) (rows : List Node) where
+  -- "offset of the text", "offset of the class name": word 2 is the length of all that stands before it in the plan
+  pub record TextBehind (i : ℕ) (before text : List ℕ) : Type 0 where
+    pub offset : nodeAt rows i .content ≡ length before
+    pub stands : Begins source 0 (before ++ text)
+
+  -- the text of a key, a scalar or a head, if it has one: `before` is all that stands before its tag
+  abbrev pub PlacedKey : (i : ℕ) → (before : List ℕ) → Key → Type 0
+  PlacedKey i before (intKey x) = Unit {0}
+  PlacedKey i before (stringKey q) = TextBehind i (before ++ opening Kind.string q) (q .text)
+
+  abbrev pub PlacedScalar : (i : ℕ) → (before : List ℕ) → Scalar → Type 0
+  PlacedScalar i before null = Unit {0}
+  PlacedScalar i before (bool b) = Unit {0}
+  PlacedScalar i before (int x) = Unit {0}
+  PlacedScalar i before (float t) = TextBehind i (before ++ (tag Kind.float ∷ byte ":" ∷ [])) t
+  PlacedScalar i before (string q) = TextBehind i (before ++ opening Kind.string q) (q .text)
+
+  abbrev pub PlacedContainer : (i : ℕ) → (before : List ℕ) → Container → Type 0
+  PlacedContainer i before array = Unit {0}
+  PlacedContainer i before (object q) = TextBehind i (before ++ opening Kind.object q) (q .text)
+
+  -- the texts of the value at node i: its own, then those of its pairs
+  abbrev mutual
+    pub Placed : (i : ℕ) → (before : List ℕ) → Value → Type 0
+    Placed i before (leaf x) = PlacedScalar i before x
+    Placed i before (ref r) = Unit {0}
+    Placed i before (branch h ps) = PlacedContainer i before (h .container)
+        × PlacedIn (suc i) (before ++ writeContainer (h .container) (writeNumber (h .spelling) (count ps) (byte ":" ∷ byte "{" ∷ []))) ps
+
+    pub PlacedIn : (i : ℕ) → (before : List ℕ) → Values → Type 0
+    PlacedIn i before none = Unit {0}
+    PlacedIn i before (pair k v ps) = PlacedKey i before k
+        × Placed (suc i) (before ++ writeKey k []) v
+        × PlacedIn (suc (i + nodes v)) (before ++ writeKey k (write v [])) ps
+
+-- what the nodes of a plan say: its meaning, and where its texts stand
+pub record Says (source : List ℕ) (rows : List Node) (v : Value) : Type 0 where
+  pub shown : Shows source rows 0 (meaning v)
+  pub placed : Placed source rows 0 [] v

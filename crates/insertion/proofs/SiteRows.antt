@@ -23,8 +23,8 @@ use Rattle.format.specs.Edit.{ordinalsUpto, ordinalsWithin, ordinalsBefore, new
 use Rattle.format.specs.Writing.{Site, under, arrayAt, arrayIn}
 use Rattle.format.proofs.Answers.{refused-same, not-both, bind-refused}
 use Rattle.format.proofs.Rows.{at-first}
-use Rattle.format.proofs.Places.{InTable, PairsInTable, contents-in, first-in, others-in, contents-text, value-text, others-text}
-use Rattle.format.proofs.Tables.{end-is, whole}
+use Rattle.format.proofs.Places.{InTable, PairsInTable, contents-in, first-in, others-in, contents-text, value-text, others-text, whole}
+use Rattle.format.proofs.Tables.{end-is}
 use Rattle.insertion.specs.Ways.{WayTo, found, inside, WayIn, first, later}
 use Rattle.insertion.proofs.Arrays.{nodes-inside}
 
