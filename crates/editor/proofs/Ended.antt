@@ -10,7 +10,7 @@ use lib.Dec.{leb, leb→le, not-T}
 use lib.ListN.{length, take, drop, replicate, drop-of-length-le}
 use lib.Seq.{sets-eq, length-sets, take-append-seam}
 use borrow.Author.Tests.{le-leb, lt-leb}
-use Rattle.decimal.proofs.Decide.{Order, below, above, order, T-of, T-false, and-left, and-right}
+use Rattle.decimal.proofs.Decide.{Order, below, above, order, T-of, T-true, T-false, and-left, and-right}
 use Rattle.format.specs.Syntax.{Value, print}
 use Rattle.format.specs.Limits.{sourceLimit}
 use Rattle.format.specs.Answer.{Answer, ok, refused, _>>=_, require, codeOf, positionOf}
@@ -18,12 +18,13 @@ use Rattle.format.specs.Read.{read}
 use Rattle.format.specs.Canonical.{canonical}
 use Rattle.format.specs.Reading.{capacityOf, cleared, over, tableAfter}
 use Rattle.format.specs.Fits.{IsPlan}
+use Rattle.format.proofs.Answers.{not-both, require-ok}
 use Rattle.format.proofs.Inversion.{read-ok}
 use Rattle.format.proofs.Results.{after-length}
 use Rattle.format.specs.Writing.{fitsIn, withRoom, canonicalBytes, insertionOf, insertBytes}
 use Rattle.format.proofs.Answers.{not-both, bind-refused}
 use Rattle.editor.specs.Promise.{writingAnswer, Writes}
-use Rattle.editor.specs.Ends.{Refuses, Settles, Short, Spared, shrinks, short, Roomed, EditFits}
+use Rattle.editor.specs.Ends.{roomAnswer, Refuses, Settles, Short, Spared, shrinks, short, Roomed, EditFits}
 use Rattle.tokens.specs.Tokens.{Token, tokens, writeTokens}
 use Rattle.tokens.specs.Between.{Stretch}
 use Rattle.tokens.proofs.TokenLaws.{tokens-write, tokens-canonical, tokens-fit}
@@ -34,11 +35,12 @@ use Rattle.rewriting.specs.Output.{Puts}
 use Rattle.rewriting.specs.Rewriting.{changedText}
 use Rattle.rewriting.specs.Edited.{canonicalText, editedText, writable, Parted}
 use Rattle.rewriting.specs.declared.inserted.Spot.{Spot}
-use Rattle.rewriting.proofs.Editable.{Untouched, by-spot, edited-most}
+use Rattle.rewriting.proofs.Editable.{by-spot, edited-most}
 use Rattle.rewriting.proofs.Measures.{texts-inside, canonical-text-most}
 use Rattle.placing.specs.declared.Placing.{Placing}
 use Rattle.placing.specs.Locating.{placingAnswer, spotFor, tableLocated, Locates}
 use Rattle.placing.proofs.SpotLaws.{Located, spot-leads}
+use Rattle.editor.specs.declared.Room.{Room}
 use Rattle.editor.specs.declared.Writing.{Writing}
 use Rattle.editor.proofs.Canonicalizing.{by-value}
 
@@ -89,111 +91,117 @@ module _ {bytes : List ℕ} {n : ℕ} {out out′ : List ℕ} (put : Puts bytes 
 -- ---- what is answered and left, the bytes to write being known
 
 module _ {text : Answer (List ℕ)} (source before out : List ℕ) where
-  -- the definition's own refusal, with nothing written
+  -- a refusal that is the definition's own, with nothing written
+  refusal : {after : List ℕ} {code at : ℕ} {r : Writing} → text ≡ refused code at → writingAnswer r ≡ refused code at → after ≡ cleared before
+      → Writes text source before after out out r
+  refusal {after} {r = r} e f t =
+      subst (λ (a : Answer (List ℕ)). Writes a source before after out out r) (sym e)
+      (record { answer = f; leaves = record { table = t; output = refl } })
+
   pub writes-refused : {after : List ℕ} {code at : ℕ} → text ≡ refused code at → after ≡ cleared before
       → Writes text source before after out out (Writing.Refused code at)
   unfolding writingAnswer
-  writes-refused {after} {code} {at} e t =
-      subst (λ (c : Answer (List ℕ)). Writes c source before after out out (Writing.Refused code at)) (sym e)
-      (record { answer = refl; leaves = record { table = t; output = refl } })
+  writes-refused e t = refusal e refl t
 
-  -- 14, the plan having been read
-  pub writes-refusal : {between after : List ℕ} {r : Writing} → between ≡ tableAfter source before → text ≡ refused 14 0 → Refuses between after r
-      → Writes text source before after out out r
-  writes-refusal {between} {after} {r} t e f =
-      subst (Writes text source before after out out) (sym (f .answer))
-      (writes-refused e (f .table ∙ ap (λ (k : ℕ). replicate k 0) (ap length t ∙ after-length source before)))
-
-  module _ (bytes : List ℕ) (e : text ≡ withRoom (length out) bytes) where
+  -- the plan having been read: 14, or the text
+  module _ (bytes : List ℕ) (e : text ≡ withRoom (length out) bytes) {between : List ℕ} (t : between ≡ tableAfter source before) where
     roomed : (b : Bool) → fitsIn (length out) (length bytes) ≡ b → text ≡ (require b 14 0 >>= λ u. ok bytes)
     roomed b f = e ∙ ap (λ (b : Bool). require b 14 0 >>= λ u. ok bytes) f
 
-    pub writes-text : {between : List ℕ} → between ≡ tableAfter source before → fitsIn (length out) (length bytes) ≡ true → {n : ℕ} {out′ : List ℕ}
-        → Puts bytes 0 out n out′ → {after : List ℕ} {r : Writing} → Settles (take n out′) between after r
-        → Writes text source before after out out′ r
-    unfolding writingAnswer
-    writes-text t f {n} {out′} put {after} {r} c =
+    pub writes-14 : fitsIn (length out) (length bytes) ≡ false → {after : List ℕ} {r : Writing} → Refuses between after r
+        → Writes text source before after out out r
+    writes-14 f c = refusal (roomed false f) (c .answer) (c .table ∙ ap (λ (k : ℕ). replicate k 0) (ap length t ∙ after-length source before))
+
+    pub writes-text : fitsIn (length out) (length bytes) ≡ true → {n : ℕ} {out′ : List ℕ} → Puts bytes 0 out n out′ → {after : List ℕ} {r : Writing}
+        → Settles (take n out′) between after r → Writes text source before after out out′ r
+    writes-text f {n} {out′} put {after} {r} c =
         let same : take n out′ ≡ bytes = prefix put f in
-        subst (λ (a : Answer (List ℕ)). Writes a source before after out out′ r) (sym (roomed true f))
-        (subst (Writes (ok bytes) source before after out out′) (sym (c .answer ∙ ap (λ (l : List ℕ). Writing.Written (length l)) same))
-        (record { answer = refl; leaves = record { table = c .table ∙ ap₂ tableAfter same t; output = written put f } }))
+        subst (λ (a : Answer (List ℕ)). Writes a source before after out out′ r) (sym (roomed true f)) (record {
+          answer = c .answer ∙ ap (λ (l : List ℕ). ok (length l)) same;
+          leaves = record { table = c .table ∙ ap₂ tableAfter same t; output = written put f };
+        })
 
 -- ---- an edit
 
 pub is-short : (room source key value : ℕ) → sourceLimit ≤ room → source ≤ 49000 → key ≤ 2000 → leb value 2000 ≡ true → Short room source key value
 is-short room source key value h i j e = record { enough = h; low = omega (arith, i, j, leb→le value 2000 (T-of e)) }
 
+-- an edit of a plan is one that is written, unless its texts are too long
+fit-writable : (source : List ℕ) (e : Edit) (key value : List ℕ) → EditFits source e key value → length key ≤ sourceLimit → length value ≤ sourceLimit
+    → writable (length source) e (length key) (length value) ≡ true
+fit-writable source e key value z h i = by-spot (length source) e (length key) (length value) (z .short) h i ∙ z .inside
+
 short-room : {room : ℕ} (source : List ℕ) (e : Edit) (key value : List ℕ) → Short room (length source) (length key) (length value) → EditFits source e key value
-    → writable (length source) e (length key) (length value) ≡ true → true ≡ fitsIn room (length (editedText source e key value))
-short-room {room} source e key value h z f =
+    → fitsIn room (length (editedText source e key value)) ≡ true
+short-room {room} source e key value h z =
+    let f = fit-writable source e key value z (omega (arith, h .low)) (omega (arith, h .low)) in
     let n : ℕ = length (editedText source e key value) in
     let m : n ≤ sourceLimit = omega (arith, edited-most source e key value f (z .parted), h .low) in
-    sym (rw (le-leb n room (omega (arith, m, h .enough)), le-leb n sourceLimit m))
+    rw (le-leb n room (omega (arith, m, h .enough)), le-leb n sourceLimit m)
 
 pub canonical-spared : (room source key value : ℕ) (e : Edit) → e ≡ Edit.Canonical → fitsIn room source ≡ true → Spared room e source key value
 canonical-spared room source key value e c f = subst (λ (x : Edit). Spared room x source key value) (sym c) (shrinks f)
 
-shrinks-room : (room : ℕ) (source : List ℕ) → fitsIn room (length source) ≡ true → true ≡ fitsIn room (length (canonicalText source))
+shrinks-room : (room : ℕ) (source : List ℕ) → fitsIn room (length source) ≡ true → fitsIn room (length (canonicalText source)) ≡ true
 shrinks-room room source h =
     let n : ℕ = length (canonicalText source) in
     let i : length source ≤ room = leb→le (length source) room (and-left (leb (length source) room) (leb (length source) sourceLimit) (T-of h)) in
     let j : length source ≤ sourceLimit =
     leb→le (length source) sourceLimit (and-right (leb (length source) room) (leb (length source) sourceLimit) (T-of h)) in
-    sym (rw (le-leb n room (omega (arith, canonical-text-most source, i)), le-leb n sourceLimit (omega (arith, canonical-text-most source, j))))
+    rw (le-leb n room (omega (arith, canonical-text-most source, i)), le-leb n sourceLimit (omega (arith, canonical-text-most source, j)))
 
 pub spared-room : {room : ℕ} (source : List ℕ) (e : Edit) (key value : List ℕ) → Spared room e (length source) (length key) (length value)
-    → EditFits source e key value → writable (length source) e (length key) (length value) ≡ true → true ≡ fitsIn room (length (editedText source e key value))
-spared-room {room} source Edit.Canonical key value (shrinks h) z f = shrinks-room room source h
-spared-room source e key value (short h) z f = short-room source e key value h z f
+    → EditFits source e key value → fitsIn room (length (editedText source e key value)) ≡ true
+spared-room {room} source Edit.Canonical key value (shrinks h) z = shrinks-room room source h
+spared-room source e key value (short h) z = short-room source e key value h z
 
-module _ (source : List ℕ) (e : Edit) (key value : List ℕ) where
-  -- what is not edited at all was not measured
-  pub unfit-roomed : {out part : List ℕ} → Untouched source e key value [] part → Roomed source e key value out (part ++ out) false
-  unfit-roomed {out} k = record { same = ap (λ (p : List ℕ). p ++ out) (k .same); room = λ w. absurd (true≢false (sym w ∙ k .unfit)) }
-
-  pub measured-roomed : (out : List ℕ) {n : ℕ} {part : List ℕ} → Puts (editedText source e key value) 0 [] n part → {r : Bool} → r ≡ fitsIn (length out) n
-      → Roomed source e key value out (part ++ out) r
-  measured-roomed out put i = record { same = untouched put out; room = λ w. i ∙ ap (fitsIn (length out)) (size put) }
-
--- what was said of the room
-module _ {source : List ℕ} {e : Edit} {key value out out′ : List ℕ} {r : Bool} (g : Roomed source e key value out out′ r) where
-  pub room-there : r ≡ true → writable (length source) e (length key) (length value) ≡ true
-      → fitsIn (length out) (length (editedText source e key value)) ≡ true
-  room-there i w = sym (g .room w) ∙ i
-
-  pub room-missing : r ≡ false → writable (length source) e (length key) (length value) ≡ true
-      → false ≡ fitsIn (length out) (length (editedText source e key value))
-  room-missing i w = sym i ∙ g .room w
-
-module _ {source : List ℕ} {e : Edit} {key value : List ℕ} (z : EditFits source e key value) {text : Answer (List ℕ)} (room : ℕ)
-    (f : text ≡ withRoom room (editedText source e key value)) where
-  no-room : fitsIn room (length (editedText source e key value)) ≡ false → text ≡ refused 14 0
-  no-room g = f ∙ ap (λ (b : Bool). require b 14 0 >>= λ u. ok (editedText source e key value)) g
-
-  too-long : {n : ℕ} → n ≤ length (editedText source e key value) → sourceLimit < n → text ≡ refused 14 0
+-- what is not edited at all has a text that is longer than any plan: 14, whatever the room
+module _ {source : List ℕ} {e : Edit} {key value : List ℕ} (z : EditFits source e key value) (room : ℕ) where
+  too-long : {n : ℕ} → n ≤ length (editedText source e key value) → sourceLimit < n → fitsIn room (length (editedText source e key value)) ≡ false
   too-long {n} h i =
-      no-room (T-false (fitsIn room (length (editedText source e key value)))
-      (not-T (fitsIn room (length (editedText source e key value))) (λ t.
       let m : ℕ = length (editedText source e key value) in
+      T-false (fitsIn room m) (not-T (fitsIn room m) (λ t.
       let j : m ≤ sourceLimit = leb→le m sourceLimit (and-right (leb m room) (leb m sourceLimit) t) in
-      omega arith)))
+      omega arith))
 
-  -- what is not edited at all has a text that is longer than any plan
-  pub unfit-14 : writable (length source) e (length key) (length value) ≡ false → text ≡ refused 14 0
+  pub unfit-14 : writable (length source) e (length key) (length value) ≡ false → fitsIn room (length (editedText source e key value)) ≡ false
   unfit-14 g = by (order sourceLimit (length key)) (order sourceLimit (length value))
     where
-      by : Order sourceLimit (length key) → Order sourceLimit (length value) → text ≡ refused 14 0
+      by : Order sourceLimit (length key) → Order sourceLimit (length value) → fitsIn room (length (editedText source e key value)) ≡ false
       by (below h) j = too-long (z .key) h
       by (above h) (below i) = too-long (z .value) i
-      by (above h) (above i) = absurd (true≢false (sym (by-spot (length source) e (length key) (length value) (z .short) h i ∙ z .inside) ∙ g))
+      by (above h) (above i) = absurd (true≢false (sym (fit-writable source e key value z h i) ∙ g))
 
-  pub full-14 : (writable (length source) e (length key) (length value) ≡ true → false ≡ fitsIn room (length (editedText source e key value)))
-      → text ≡ refused 14 0
-  full-14 g = by (writable (length source) e (length key) (length value)) refl
+-- what is said of the room
+pub says-enough : {b : Bool} → b ≡ true → roomAnswer Room.Enough ≡ require b 14 0
+unfolding roomAnswer
+says-enough f = sym (ap (λ (b : Bool). require b 14 0) f)
+
+pub says-exceeded : {b : Bool} → b ≡ false → roomAnswer Room.Exceeded ≡ require b 14 0
+unfolding roomAnswer
+says-exceeded f = sym (ap (λ (b : Bool). require b 14 0) f)
+
+-- of a text that was measured
+pub measured-roomed : (source : List ℕ) (e : Edit) (key value out : List ℕ) {n : ℕ} {part : List ℕ} → Puts (editedText source e key value) 0 [] n part
+    → {b : Bool} → b ≡ fitsIn (length out) n → {r : Room} → roomAnswer r ≡ require b 14 0 → Roomed source e key value out (part ++ out) r
+measured-roomed source e key value out put i a =
+    record { answer = a ∙ ap (λ (b : Bool). require b 14 0) (i ∙ ap (fitsIn (length out)) (size put)); same = untouched put out }
+
+-- what was said of it
+module _ {source : List ℕ} {e : Edit} {key value out out′ : List ℕ} {r : Room} (g : Roomed source e key value out out′ r) where
+  pub room-there : r ≡ Room.Enough → fitsIn (length out) (length (editedText source e key value)) ≡ true
+  unfolding roomAnswer
+  room-there i =
+      let b : Bool = fitsIn (length out) (length (editedText source e key value)) in
+      T-true b (require-ok b 14 0 tt (sym (g .answer) ∙ ap roomAnswer i))
+
+  pub room-missing : r ≡ Room.Exceeded → fitsIn (length out) (length (editedText source e key value)) ≡ false
+  unfolding roomAnswer
+  room-missing i = short (fitsIn (length out) (length (editedText source e key value))) (sym (g .answer) ∙ ap roomAnswer i)
     where
-      by : (b : Bool) → writable (length source) e (length key) (length value) ≡ b → text ≡ refused 14 0
-      by true w = no-room (sym (g w))
-      by false w = unfit-14 w
+      short : (b : Bool) → require b 14 0 ≡ refused 14 0 → b ≡ false
+      short true f = absurd (not-both (sym f))
+      short false f = refl
 
 -- ---- retyping
 

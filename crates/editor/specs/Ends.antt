@@ -1,27 +1,33 @@
 -- How a service that writes ends.
 use mathlib.Core.Path.{_≡_}
 use mathlib.Core.List.{List}
-use mathlib.Core.Bool.{Bool, true}
+use mathlib.Core.Bool.{true}
 use Prim.Native.Nat.{ℕ, _+_, _*_, _≤_}
 use lib.ListN.{length}
 use Rattle.format.specs.Limits.{sourceLimit}
-use Rattle.format.specs.Answer.{Answer}
+use Rattle.format.specs.Answer.{Answer, ok, refused, require}
 use Rattle.format.specs.Reading.{cleared, tableAfter}
 use Rattle.format.specs.Writing.{fitsIn, withRoom}
 use Rattle.rewriting.specs.declared.Edit.{Edit}
 use Rattle.rewriting.specs.declared.inserted.Spot.{Spot}
-use Rattle.rewriting.specs.Edited.{editedText, spotInside, writable, Parted}
+use Rattle.rewriting.specs.Edited.{editedText, spotInside, Parted}
+use Rattle.editor.specs.declared.Room.{Room}
 use Rattle.editor.specs.declared.Writing.{Writing}
-use Rattle.editor.specs.Promise.{Writes}
+use Rattle.editor.specs.Promise.{writingAnswer, Writes}
 
--- 14, at 0
+-- the paper's number and values for each case of the enum: "bytes to write exceed the output's length or 65,536" is 14, at 0
+unfoldable pub roomAnswer : Room → Answer (Unit {0})
+roomAnswer Room.Enough = ok tt
+roomAnswer Room.Exceeded = refused 14 0
+
+-- so answered, the plan having been read
 pub record Refuses (t t′ : List ℕ) (r : Writing) : Type 0 where
-  pub answer : r ≡ Writing.Refused 14 0
+  pub answer : writingAnswer r ≡ refused 14 0
   pub table : t′ ≡ cleared t
 
 -- the bytes written are read
 pub record Settles (bytes t t′ : List ℕ) (r : Writing) : Type 0 where
-  pub answer : r ≡ Writing.Written (length bytes)
+  pub answer : writingAnswer r ≡ ok (length bytes)
   pub table : t′ ≡ tableAfter bytes t
 
 -- lengths of texts that need not be measured: what is written is at most five quarters of the source, with the texts and a head of nine bytes
@@ -42,10 +48,10 @@ pub record EditFits (s : List ℕ) (e : Edit) (k v : List ℕ) : Type 0 where
   pub key : length k ≤ length (editedText s e k v)
   pub value : length v ≤ length (editedText s e k v)
 
--- whether there is room, of an edit that is written at all; the output is as it was
-pub record Roomed (s : List ℕ) (e : Edit) (key value out out′ : List ℕ) (r : Bool) : Type 0 where
+-- 14; the output is as it was
+pub record Roomed (s : List ℕ) (e : Edit) (key value out out′ : List ℕ) (r : Room) : Type 0 where
+  pub answer : roomAnswer r ≡ require (fitsIn (length out) (length (editedText s e key value))) 14 0
   pub same : out′ ≡ out
-  pub room : writable (length s) e (length key) (length value) ≡ true → r ≡ fitsIn (length out) (length (editedText s e key value))
 
 -- the answer, the table and the output, the bytes to write being known
 abbrev pub Finishes : (s : List ℕ) → Edit → (key value t t′ out out′ : List ℕ) → Writing → Type 0

@@ -3,6 +3,7 @@
 // 14: then every word of the table is zero, and the output as it was. The C interface and the program cases call them.
 // Both end in `write_plan`. Four crates make the services, so that an edit proves a quarter of the code again: tokens (what a plan is made of), rewriting (what
 // an edit writes), placing (reading, and the steps before writing) and this one (14, writing, reading again). Each rests on the promises of those below alone.
+use format::codes::OUTPUT_TOO_SHORT;
 use format::limits::SOURCE_LIMIT;
 use placing::Placing;
 use placing::locate;
@@ -33,6 +34,12 @@ pub enum Writing {
     Refused { code: u8, at: usize },
 }
 
+// Whether there is room for what is to write: 14 if it is exceeded (`roomAnswer`, specs/Ends).
+enum Room {
+    Enough,
+    Exceeded,
+}
+
 // Whether so many bytes may be written to an output of this length: "bytes to write exceed the output's length or 65,536" is refused.
 fn has_room(room: usize, length: usize) -> bool
     ensures { λ r. ⌜ r ≡ fitsIn room length ⌝ }
@@ -48,7 +55,10 @@ fn refuse(table: &mut [u64]) -> Writing
     ensures { λ r. ⌜ Refuses (now (table .entry)) (now (table .exit)) r ⌝ }
 {
     tables::clear(table);
-    Writing::Refused { code: 14, at: 0 }
+    Writing::Refused {
+        code: OUTPUT_TOO_SHORT,
+        at: 0,
+    }
 }
 
 // A plan is written: it is read into the table. That reading accepts it is a theorem, so its answer is not looked at.
@@ -89,19 +99,22 @@ fn is_spared(room: usize, edit: Edit, source: usize, key: usize, value: usize) -
 
 // Whether there is room for the edited plan. Written where there is none for any of it, in the empty part of the output, a longer one is only measured: so one
 // loop measures and writes, and a refusal has written nothing.
-fn room_for(source: &[u8], edit: Edit, key: &[u8], value: &[u8], out: &mut [u8]) -> bool
+fn room_for(source: &[u8], edit: Edit, key: &[u8], value: &[u8], out: &mut [u8]) -> Room
     requires { ⌜ EditFits (now source) edit (now key) (now value) ⌝ }
     ensures { λ r. ⌜ Roomed (now (source .entry)) edit (now (key .entry)) (now (value .entry)) (now (out .entry)) (now (out .exit)) r ⌝ }
 {
     let room = out.len();
     if is_spared(room, edit, source.len(), key.len(), value.len()) {
-        return true;
+        return Room::Enough;
     }
     let measured = write(source, edit, key, value, &mut out[..0]);
     let Edited::Written(length) = measured else {
-        return false;
+        return Room::Exceeded;
     };
-    has_room(room, length)
+    if has_room(room, length) {
+        return Room::Enough;
+    }
+    Room::Exceeded
 }
 
 // 14, and then the edited plan is written and read.
@@ -117,12 +130,13 @@ fn write_plan(
     ensures { λ r. ⌜ Finishes (now (source .entry)) edit (now (key .entry)) (now (value .entry))
         (now (table .entry)) (now (table .exit)) (now (out .entry)) (now (out .exit)) r ⌝ }
 {
-    if !room_for(source, edit, key, value, out) {
+    let room = room_for(source, edit, key, value, out);
+    let Room::Enough = room else {
         return refuse(table);
-    }
+    };
     let written = write(source, edit, key, value, out);
     let Edited::Written(length) = written else {
-        // A key or a value longer than any plan, which is not edited: what is written would be longer still.
+        // Never: a key or a value longer than any plan, for which there was no room.
         return refuse(table);
     };
     settle(&out[..length], table)

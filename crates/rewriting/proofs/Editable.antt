@@ -1,19 +1,23 @@
 -- What is edited at all. Assumes nothing.
 use Prim.Native.Nat.{ℕ, _+_, _*_, _≤_}
+use native.Mathlib.Nat.{zero-add}
 use native.Mathlib.Omega.{arith}
-use mathlib.Core.Path.{_≡_, refl, sym, ap, _∙_, subst}
-use mathlib.Core.Bool.{Bool, true, false, true≢false, _&&_}
+use mathlib.Core.Path.{_≡_, refl, sym, ap, _∙_}
+use mathlib.Core.Bool.{Bool, true, false, _&&_}
 use mathlib.Core.List.{List}
 use lib.Dec.{leb, leb→le}
 use lib.ListN.{length}
 use borrow.Author.Tests.{le-leb, lt-leb}
 use Rattle.decimal.proofs.Decide.{T-of, T-true, and-left, and-right}
 use Rattle.format.specs.Limits.{sourceLimit}
+use Rattle.format.specs.Answer.{Answer, ok, refused, _>>=_, require}
+use Rattle.format.proofs.Answers.{ok-same, not-both}
 use Rattle.rewriting.specs.declared.Edit.{Edit}
 use Rattle.rewriting.specs.declared.Edited.{Edited}
 use Rattle.rewriting.specs.declared.inserted.Spot.{Spot}
 use Rattle.rewriting.specs.Output.{Within, Puts}
-use Rattle.rewriting.specs.Edited.{canonicalText, insertedText, editedText, stands, spotInside, writable, Edits, written, unfit, Insertable, Parted}
+use Rattle.rewriting.specs.Edited.{canonicalText, insertedText, editedText, stands, spotInside, writable, editedAnswer, editedBytes}
+use Rattle.rewriting.specs.Edited.{lengthEdited, outputEdited, Edits, Insertable, Parted}
 use Rattle.rewriting.proofs.Outputs.{puts-as}
 use Rattle.rewriting.proofs.Measures.{insertable, parted-most, canonical-text-most, canonical-within}
 
@@ -65,6 +69,18 @@ sizes n e key value w =
 
 -- ---- what is written
 
+-- by the test
+bytes-by : (s : List ℕ) (e : Edit) (key value : List ℕ) (b : Bool) → writable (length s) e (length key) (length value) ≡ b
+    → editedBytes s e key value ≡ (require b 14 0 >>= λ u. ok (editedText s e key value))
+bytes-by s e key value b f = ap (λ (b : Bool). require b 14 0 >>= λ u. ok (editedText s e key value)) f
+
+pub leaves-unfit : (s : List ℕ) (e : Edit) (key value : List ℕ) {out : List ℕ} → writable (length s) e (length key) (length value) ≡ false
+    → Edits s e key value out out Edited.Unfit
+unfolding editedAnswer
+leaves-unfit s e key value {out} f =
+    let bytes : editedBytes s e key value ≡ refused 14 0 = bytes-by s e key value false f in
+    record { answer = sym (ap lengthEdited bytes); output = sym (ap (λ (a : Answer (List ℕ)). outputEdited a out) bytes) }
+
 module _ (s : List ℕ) (e : Edit) (key value : List ℕ) (f : writable (length s) e (length key) (length value) ≡ true) where
   pub canonical-room : Within (canonicalText s) 0
   canonical-room = canonical-within s (sizes (length s) e (length key) (length value) f .source)
@@ -75,7 +91,14 @@ module _ (s : List ℕ) (e : Edit) (key value : List ℕ) (f : writable (length 
       insertable s key value p (sym (inside-insert (length s) e (length key) (length value) i) ∙ z .standing) (z .source) (z .key) (z .value)
 
   pub puts-edited : {t out out′ : List ℕ} {n : ℕ} → editedText s e key value ≡ t → Puts t 0 out n out′ → Edits s e key value out out′ (Edited.Written n)
-  puts-edited {n = n} i put = written n f (puts-as i put)
+  unfolding editedAnswer
+  puts-edited {out = out} i put =
+      let p = puts-as i put in
+      let bytes : editedBytes s e key value ≡ ok (editedText s e key value) = bytes-by s e key value true f in
+      record {
+        answer = ap ok (p .end ∙ zero-add (length (editedText s e key value))) ∙ sym (ap lengthEdited bytes);
+        output = p .text ∙ sym (ap (λ (a : Answer (List ℕ)). outputEdited a out) bytes);
+      }
 
 pub as-canonical : {e : Edit} (s key value : List ℕ) → e ≡ Edit.Canonical → editedText s e key value ≡ canonicalText s
 as-canonical s key value i = ap (λ (d : Edit). editedText s d key value) i
@@ -100,26 +123,33 @@ pub record Untouched (s : List ℕ) (e : Edit) (key value out out′ : List ℕ)
   pub unfit : writable (length s) e (length key) (length value) ≡ false
   pub same : out′ ≡ out
 
-module _ {s : List ℕ} {e : Edit} {key value out out′ : List ℕ} where
-  pub written-of : {r : Edited} {n : ℕ} → Edits s e key value out out′ r → r ≡ Edited.Written n → Put s e key value out out′ n
-  written-of (written m f p) i = subst (Put s e key value out out′) (same i) (record { fit = f; text = p })
-    where
-      same : {a b : ℕ} → Edited.Written a ≡ Edited.Written b → a ≡ b
-      same j = cc
-  written-of (unfit f o) i = absurd (never i)
-    where
-      never : {n : ℕ} → Edited.Unfit ≡ Edited.Written n → ⊥
-      never j = let z : _≡_ {A = ℕ} 0 1 = cc in omega arith
+module _ {s : List ℕ} {e : Edit} {key value out out′ : List ℕ} {r : Edited} (g : Edits s e key value out out′ r) where
+  answer-by : (b : Bool) → writable (length s) e (length key) (length value) ≡ b
+      → editedAnswer r ≡ lengthEdited (require b 14 0 >>= λ u. ok (editedText s e key value))
+  answer-by b f = g .answer ∙ ap lengthEdited (bytes-by s e key value b f)
 
-  -- what is fit once is fit again
-  pub written-fit : {r : Edited} → Edits s e key value out out′ r → writable (length s) e (length key) (length value) ≡ true
-      → (n : ℕ) × Put s e key value out out′ n
-  written-fit (written m f p) i = (m, record { fit = f; text = p })
-  written-fit (unfit f o) i = absurd (true≢false (sym i ∙ f))
+  output-by : (b : Bool) → writable (length s) e (length key) (length value) ≡ b
+      → out′ ≡ outputEdited (require b 14 0 >>= λ u. ok (editedText s e key value)) out
+  output-by b f = g .output ∙ ap (λ (a : Answer (List ℕ)). outputEdited a out) (bytes-by s e key value b f)
 
-  pub unfit-of : {r : Edited} → Edits s e key value out out′ r → r ≡ Edited.Unfit → Untouched s e key value out out′
-  unfit-of (written m f p) i = absurd (never i)
+  pub written-of : {n : ℕ} → r ≡ Edited.Written n → Put s e key value out out′ n
+  unfolding editedAnswer
+  written-of {n} i = by (writable (length s) e (length key) (length value)) refl
     where
-      never : {n : ℕ} → Edited.Written n ≡ Edited.Unfit → ⊥
-      never j = let z : _≡_ {A = ℕ} 0 1 = cc in omega arith
-  unfit-of (unfit f o) i = record { unfit = f; same = o }
+      by : (b : Bool) → writable (length s) e (length key) (length value) ≡ b → Put s e key value out out′ n
+      by true f = record {
+        fit = f;
+        text = record {
+          end = ok-same (ap editedAnswer (sym i) ∙ answer-by true f) ∙ sym (zero-add (length (editedText s e key value)));
+          text = output-by true f;
+        };
+      }
+      by false f = absurd (not-both (sym (answer-by false f) ∙ ap editedAnswer i))
+
+  pub unfit-of : r ≡ Edited.Unfit → Untouched s e key value out out′
+  unfolding editedAnswer
+  unfit-of i = by (writable (length s) e (length key) (length value)) refl
+    where
+      by : (b : Bool) → writable (length s) e (length key) (length value) ≡ b → Untouched s e key value out out′
+      by true f = absurd (not-both (ap editedAnswer (sym i) ∙ answer-by true f))
+      by false f = record { unfit = f; same = output-by false f }

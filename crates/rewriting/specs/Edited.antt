@@ -1,17 +1,19 @@
 -- WHAT AN EDIT WRITES, of any source.
 use mathlib.Core.Path.{_≡_}
 use mathlib.Core.List.{List, _++_}
-use mathlib.Core.Bool.{Bool, true, false, _&&_}
+use mathlib.Core.Bool.{Bool, true, _&&_}
 use Prim.Native.Nat.{ℕ, _+_, _-_}
 use lib.Dec.{leb}
 use lib.ListN.{length}
+use lib.Seq.{sets}
 use Rattle.format.specs.Limits.{sourceLimit, numberLimit}
+use Rattle.format.specs.Answer.{Answer, ok, refused, _>>=_, require}
 use Rattle.tokens.specs.Between.{Stretch}
 use Rattle.rewriting.specs.declared.Edit.{Edit}
 use Rattle.rewriting.specs.declared.Edited.{Edited}
 use Rattle.rewriting.specs.declared.inserted.Spot.{Spot}
 use Rattle.rewriting.specs.declared.rewrite.Change.{Change}
-use Rattle.rewriting.specs.Output.{Within, Puts}
+use Rattle.rewriting.specs.Output.{Within}
 use Rattle.rewriting.specs.Shortest.{numberedText}
 use Rattle.rewriting.specs.Rewriting.{rewrittenText}
 
@@ -46,11 +48,35 @@ spotInside n (Edit.Insert p) = stands n p
 abbrev pub writable : (size : ℕ) → Edit → (key value : ℕ) → Bool
 writable n e key value = leb n sourceLimit && (leb key sourceLimit && (leb value sourceLimit && spotInside n e))
 
--- WHAT WRITING ANSWERS AND LEAVES: the text and its length; nothing of any other edit
-pub data Edits (s : List ℕ) (e : Edit) (key value out out′ : List ℕ) : Edited → Type 0 where
-  written : (n : ℕ) → writable (length s) e (length key) (length value) ≡ true → Puts (editedText s e key value) 0 out n out′
-      → Edits s e key value out out′ (Edited.Written n)
-  unfit : writable (length s) e (length key) (length value) ≡ false → out′ ≡ out → Edits s e key value out out′ Edited.Unfit
+-- WHAT WRITING ANSWERS AND LEAVES
+
+-- the paper's number and values for each case of the enum: the length of the whole; 14, since of an edit of a plan that was read what is not edited at all
+-- would be longer than a plan may be (`unfit-14`, crates/editor)
+unfoldable pub editedAnswer : Edited → Answer ℕ
+editedAnswer (Edited.Written size) = ok size
+editedAnswer Edited.Unfit = refused 14 0
+
+-- what is to write
+abbrev pub editedBytes : (s : List ℕ) → Edit → (key value : List ℕ) → Answer (List ℕ)
+editedBytes s e key value = do
+  _ ← require (writable (length s) e (length key) (length value)) 14 0
+  ok (editedText s e key value)
+
+-- the length of the whole, whatever the room
+abbrev pub lengthEdited : Answer (List ℕ) → Answer ℕ
+lengthEdited bytes = bytes >>= λ b. ok (length b)
+
+-- stored from the output's first byte on as far as there is room; what is not edited leaves the output as it was
+abbrev pub outputEdited : Answer (List ℕ) → (out : List ℕ) → List ℕ
+outputEdited (ok bytes) out = sets out 0 bytes
+outputEdited (refused n p) out = out
+
+-- the answer, and every byte of the output, for every input
+pub record Edits (s : List ℕ) (e : Edit) (key value out out′ : List ℕ) (r : Edited) : Type 0 where
+  pub answer : editedAnswer r ≡ lengthEdited (editedBytes s e key value)
+  pub output : out′ ≡ outputEdited (editedBytes s e key value) out
+
+-- ---- what holds of an insertion
 
 -- a place between tokens: they fill the source before the array's head, behind it up to the gap, and from there on
 pub record Parted (s : List ℕ) (p : Spot) : Type 0 where

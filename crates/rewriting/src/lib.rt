@@ -25,7 +25,7 @@ pub enum Edit {
     Insert(Spot),
 }
 
-// The length of what was written, or that the edit is none of this source.
+// The length of the whole; or that it is not edited at all, which is 14 (`editedAnswer`, specs/Edited).
 pub enum Edited {
     Written(usize),
     Unfit,

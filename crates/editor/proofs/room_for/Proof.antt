@@ -1,6 +1,9 @@
 -- `editor::room_for` meets its contract. Assumes nothing.
+use Prim.Native.Nat.{ℕ}
+use mathlib.Core.Path.{refl, sym, ap}
+use mathlib.Core.List.{List, _++_}
+use lib.ListN.{length}
 use lib.Seq.{length-take-le}
-use mathlib.Core.Path.{refl, sym}
 use Rattle.rewriting.proofs.Editable as edits
 use Rattle.editor.proofs.Ended as ended
 use borrow.Author.Needs.{needs}
@@ -14,7 +17,7 @@ returns : tie.Need-returns
 returns c =
     let asked = c .before in
     let start = asked .before .before .before .before .before in
-    record { same = refl; room = ended.spared-room _ _ _ _ (asked .is-spared .ensures (c .if1 .taken)) (start .pre) }
+    record { answer = ended.says-enough (ended.spared-room _ _ _ _ (asked .is-spared .ensures (c .if1 .taken)) (start .pre)); same = refl }
 
 slice-relend-prefix-write : tie.Need-slice-relend-prefix-write
 slice-relend-prefix-write c = search needs
@@ -39,7 +42,10 @@ same-length c = search needs
 returns-2 : tie.Need-returns-2
 returns-2 c =
     let wrote = c .before .before .before .before in
-    ended.unfit-roomed _ _ _ _ (edits.unfit-of (wrote .write .ensures) (c .enum-told .given .1))
+    let start = wrote .before .before .before .before .before .before .before .before in
+    let kept = edits.unfit-of (wrote .write .ensures) (c .enum-told .given .1) in
+    let out = start .args .out .now in
+    record { answer = ended.says-exceeded (ended.unfit-14 (start .pre) (length out) (kept .unfit)); same = ap (λ (p : List ℕ). p ++ out) (kept .same) }
 
 has-room-requires : tie.Need-has-room-requires
 has-room-requires c κs = search needs
@@ -49,9 +55,18 @@ same-length-2 c = search needs
 
 returns-3 : tie.Need-returns-3
 returns-3 c =
-    let wrote = c .before .before .before .before .before .before in
-    let put = edits.written-of (wrote .write .ensures) (c .before .before .measured .given .1) in
-    ended.measured-roomed _ _ _ _ _ (put .text) (c .has-room .ensures)
+    let wrote = c .before .before .before .before .before .before .before in
+    let put = edits.written-of (wrote .write .ensures) (c .before .before .before .measured .given .1) in
+    ended.measured-roomed _ _ _ _ _ (put .text) (c .before .has-room .ensures) (ended.says-enough (c .if2 .taken))
+
+same-length-3 : tie.Need-same-length-3
+same-length-3 c = search needs
+
+returns-4 : tie.Need-returns-4
+returns-4 c =
+    let wrote = c .before .before .before .before .before .before .before in
+    let put = edits.written-of (wrote .write .ensures) (c .before .before .before .measured .given .1) in
+    ended.measured-roomed _ _ _ _ _ (put .text) (c .before .has-room .ensures) (ended.says-exceeded (c .if2 .left))
 
 pub room-for-spec : {M : Type 1} → statement M
 room-for-spec =
@@ -68,4 +83,6 @@ room-for-spec =
     returns-2
     has-room-requires
     same-length-2
-    returns-3)
+    returns-3
+    same-length-3
+    returns-4)

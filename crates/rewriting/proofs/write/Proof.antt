@@ -1,6 +1,6 @@
 -- `rewriting::write` meets its contract. Assumes nothing.
-use Rattle.rewriting.specs.Edited.{writable, unfit}
-use mathlib.Core.Path.{_≡_, refl, sym, _∙_}
+use Rattle.rewriting.specs.Edited.{writable}
+use mathlib.Core.Path.{_≡_, sym, _∙_}
 use mathlib.Core.Bool.{true}
 use lib.ListN.{length}
 use borrow.Author.Tests.{not-true, not-false}
@@ -21,7 +21,7 @@ can-write-requires : tie.Need-can-write-requires
 can-write-requires c κs = search needs
 
 returns : tie.Need-returns
-returns c = unfit (sym (c .before .can-write .ensures) ∙ not-true _ (c .if1 .taken)) refl
+returns c = editable.leaves-unfit _ _ _ _ (sym (c .before .can-write .ensures) ∙ not-true _ (c .if1 .taken))
 
 enum-told : tie.Need-enum-told
 enum-told c = search needs
