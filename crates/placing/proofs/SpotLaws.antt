@@ -9,7 +9,7 @@ use Rattle.format.specs.Syntax.{Key, Scalar}
 use Rattle.format.specs.Limits.{sourceLimit}
 use Rattle.format.specs.Answer.{Answer, ok}
 use Rattle.format.specs.Reading.{capacityOf}
-use Rattle.format.specs.Writing.{Site, withRoom, Insertion, insertionOf, insertedPlan, insertBytes}
+use Rattle.format.specs.Writing.{Site, withRoom, Insertion, insertionOf, insertBytes}
 use Rattle.format.proofs.Answers.{ok-same, bind-ok}
 use Rattle.insertion.proofs.Steps.{WithNodes, passes, steps-pass}
 use Rattle.keys.specs.declared.KeyWords.{KeyWords}

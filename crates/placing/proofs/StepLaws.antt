@@ -3,17 +3,16 @@ use Prim.Native.Nat.{ℕ, suc, _+_, _-_, _*_, _≤_, _<_}
 use native.Mathlib.Omega.{arith}
 use mathlib.Core.Path.{_≡_, refl, sym, ap, ap₂, _∙_, subst}
 use mathlib.Core.Bool.{true, false, not}
-use mathlib.Core.List.{List, []}
+use mathlib.Core.List.{List}
 use lib.Dec.{T-not, leb, ltb}
 use lib.ListN.{length, length-append}
 use borrow.Author.Tests.{ltb-true, ltb-false, leb-true, leb-false, not-false}
 use Rattle.decimal.proofs.Decide.{T-of}
 use Rattle.format.specs.Kind.{Kind, tag}
 use Rattle.format.specs.Tree.{count, nodesIn}
-use Rattle.format.specs.Syntax.{array, Key, Scalar, Value, Values, writeKey, writeScalar}
+use Rattle.format.specs.Syntax.{array, Key, Scalar, Value, Values}
 use Rattle.format.specs.Keys.{hasKey}
 use Rattle.format.specs.Limits.{depthLimit}
-use Rattle.format.specs.Fits.{KeyFits, ScalarFits}
 use Rattle.format.specs.Answer.{Answer, ok, refused}
 use Rattle.format.specs.Table.{Node, width, wordAt, tagWord, flat, tableOf}
 use Rattle.format.specs.Shows.{nodeAt}

@@ -1,13 +1,13 @@
 -- Texts that are exactly one scalar or one key. Assumes nothing.
-use Prim.Native.Nat.{ℕ, _+_, _≤_, _<_}
+use Prim.Native.Nat.{ℕ, _≤_, _<_}
 use native.Mathlib.Omega.{arith}
 use mathlib.Core.Path.{_≡_, refl, sym, ap, _∙_}
 use mathlib.Core.Bool.{true, false, true≢false}
 use mathlib.Core.List.{List, [], _∷_}
-use lib.ListN.{length, getD, take, drop, length-drop, drop-of-length-le}
+use lib.ListN.{length, getD, drop, length-drop, drop-of-length-le}
 use lib.Seq.{drop-cons}
 use Rattle.format.specs.Kind.{mayBeKey}
-use Rattle.format.specs.Syntax.{null, bool, int, float, string, intKey, stringKey, Key, Scalar, writeKey, writeScalar, writeNumber}
+use Rattle.format.specs.Syntax.{null, bool, int, float, string, intKey, stringKey, Key, Scalar, writeKey, writeScalar}
 use Rattle.format.specs.Fits.{KeyFits, ScalarFits}
 use Rattle.format.specs.Answer.{Answer, ok, refused}
 use Rattle.format.specs.Writing.{keyOf, scalarOf}

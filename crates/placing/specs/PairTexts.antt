@@ -8,7 +8,7 @@ use lib.ListN.{getD}
 use Rattle.format.specs.Answer.{Answer, ok, refused, _>>=_}
 use Rattle.format.specs.Table.{keyNode}
 use Rattle.format.specs.Writing.{keyOf, scalarOf}
-use Rattle.scanner.specs.Scans.{scalarTold}
+use Rattle.scanner.specs.Scans.{scanAnswer, scalarTold}
 use Rattle.scanner.specs.declared.Text.{Text}
 use Rattle.scanner.specs.declared.Scan.{Scan}
 use Rattle.keys.specs.declared.KeyWords.{KeyWords}
@@ -21,9 +21,12 @@ pub record IsScalar (s : List ℕ) (x : Text) : Type 0 where
   pub fits : ScalarFits scalar
   pub tells : x ≡ scalarTold 1 scalar (x .next)
 
+abbrev pub ExactText : List ℕ → Answer Text → Type 0
+ExactText s (ok x) = IsScalar s x
+ExactText s (refused c at) = (y : Scalar) → ScalarFits y → s ≡ writeScalar y [] → ⊥
+
 abbrev pub Exact : List ℕ → Scan → Type 0
-Exact s (Scan.Is x) = IsScalar s x
-Exact s (Scan.Not c) = (y : Scalar) → ScalarFits y → s ≡ writeScalar y [] → ⊥
+Exact s r = ExactText s (scanAnswer 0 r)
 
 -- words 0, 2 and 3 of the node that a key has whose tag stands at 0
 abbrev pub textWords : Key → KeyWords
@@ -36,9 +39,12 @@ pub record IsKey (s : List ℕ) (w : KeyWords) : Type 0 where
   pub fits : KeyFits key
   pub words : w ≡ textWords key
 
+abbrev pub ExactKeyText : List ℕ → Answer Text → Type 0
+ExactKeyText s (ok x) = IsKey s (record { tag = getD s 0 0; content = x .content; size = x .size })
+ExactKeyText s (refused c at) = (k : Key) → KeyFits k → s ≡ writeKey k [] → ⊥
+
 abbrev pub ExactKey : List ℕ → Scan → Type 0
-ExactKey s (Scan.Is x) = IsKey s (record { tag = getD s 0 0; content = x .content; size = x .size })
-ExactKey s (Scan.Not c) = (k : Key) → KeyFits k → s ≡ writeKey k [] → ⊥
+ExactKey s r = ExactKeyText s (scanAnswer 0 r)
 
 -- ---- 13
 

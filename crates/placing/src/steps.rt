@@ -7,12 +7,10 @@ use keys::key_at;
 use keys::same_key;
 ghost use mathlib.Core.Path.{_≡_};
 ghost use mathlib.Core.Bool.{not};
-ghost use Prim.Native.Nat.{suc, _+_, _*_, _≤_};
+ghost use Prim.Native.Nat.{suc, _+_, _*_};
 ghost use lib.Dec.{leb, ltb};
-ghost use lib.ListN.{length};
 ghost use Rattle.format.specs.Answer.{require};
 ghost use Rattle.format.specs.Limits.{depthLimit};
-ghost use Rattle.format.specs.Table.{width};
 ghost use Rattle.placing.specs.Words.{keyAmong, Walks};
 ghost use Rattle.placing.specs.Checks.{checkAnswer};
 

@@ -5,7 +5,7 @@ use Prim.Native.Nat.{ℕ, _+_, _-_, _≤_}
 use lib.Dec.{leb}
 use lib.ListN.{getD}
 use lib.Seq.{slice}
-use Rattle.format.specs.Kind.{Kind, tag, isTagOf}
+use Rattle.format.specs.Kind.{Kind, isTagOf}
 use Rattle.format.specs.Limits.{numberLimit}
 use Rattle.scanner.specs.declared.Text.{Text}
 use Rattle.rewriting.specs.declared.rewrite.Change.{Change}

@@ -1,6 +1,5 @@
 -- What was read of a token is what was written. Assumes nothing.
 use Prim.Native.Nat.{ℕ, _≤_}
-use native.Mathlib.Omega.{arith}
 use mathlib.Core.Path.{_≡_, refl, sym, ap, _∙_, subst}
 use mathlib.Core.Bool.{Bool, true, false}
 use mathlib.Core.List.{List, [], _∷_}
@@ -11,13 +10,13 @@ use Rattle.format.specs.Kind.{Kind, scalarKinds, tag}
 use Rattle.format.specs.Syntax.{null, bool, int, float, string, array, object, Scalar, Spelling, Container, RefKind, objectRef, variableRef, refKind}
 use Rattle.format.specs.Syntax.{writeScalar, writeNumber, writeContainer}
 use Rattle.format.specs.Limits.{numberLimit}
-use Rattle.format.specs.Fits.{ScalarFits, ContainerFits}
+use Rattle.format.specs.Fits.{ScalarFits}
 use Rattle.format.specs.Answer.{Answer, ok, _>>=_}
 use Rattle.format.specs.Read.{kindOf, expect, number, intText, quotedText, boolText, floatText}
 use Rattle.format.proofs.Answers.{ok-same, not-both, bind-ok}
 use Rattle.format.proofs.Texts.{tag-ok, expect-ok, number-ok, int-ok, quoted-ok, bool-ok, float-ok}
 use Rattle.scanner.specs.Scans.{namedText, countText, scalarText, scalarBehind, headText}
-use Rattle.tokens.specs.Tokens.{Token, scalar, reference, opening, closing, openingOf, referenceOf, tokenBehind, readToken, writeToken, TokenFits}
+use Rattle.tokens.specs.Tokens.{Token, scalar, closing, openingOf, referenceOf, tokenBehind, readToken, writeToken, TokenFits}
 
 -- ---- scalars
 
