@@ -1,5 +1,5 @@
 pub mod Cases
-mod Tags
+pub mod Tags
 pub mod Answers
 pub mod Keys
 pub mod Floats

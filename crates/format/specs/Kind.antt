@@ -1,6 +1,6 @@
 -- The nine kinds, by their tags. (The paper's letter of a kind is its tag.)
 use mathlib.Core.List.{List, [], _∷_}
-use mathlib.Core.Bool.{Bool, true, false, not, _||_}
+use mathlib.Core.Bool.{Bool, true, false, _||_}
 use Prim.Native.Nat.{ℕ}
 use lib.Dec.{eqb}
 use Rattle.format.specs.Bytes.{byte}
@@ -32,9 +32,12 @@ abbrev pub isTagOf : List Kind → ℕ → Bool
 isTagOf [] b = false
 isTagOf (k ∷ more) b = eqb b (tag k) || isTagOf more b
 
--- "Each value takes the next number … Two things take none: keys, and every R. An r does take one.": asked of a value's tag only
+-- "Each value takes the next number … Two things take none: keys, and every R. An r does take one."
+abbrev pub ordinalKinds : List Kind
+ordinalKinds = null ∷ bool ∷ int ∷ float ∷ string ∷ array ∷ object ∷ objectReference ∷ []
+
 abbrev pub hasOrdinal : ℕ → Bool
-hasOrdinal b = not (isTagOf (variableReference ∷ []) b)
+hasOrdinal b = isTagOf ordinalKinds b
 
 -- "A key of `a` is an i or an s; a key of `O` is an s"
 abbrev pub keyKinds : (ofArray : Bool) → List Kind
@@ -45,5 +48,8 @@ abbrev pub mayBeKey : ℕ → Bool
 mayBeKey b = isTagOf (keyKinds true) b
 
 -- "d, s: offset of the text. O: offset of the class name."
+abbrev pub textKinds : List Kind
+textKinds = float ∷ string ∷ object ∷ []
+
 abbrev pub hasText : ℕ → Bool
-hasText b = isTagOf (object ∷ float ∷ string ∷ []) b
+hasText b = isTagOf textKinds b

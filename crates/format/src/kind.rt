@@ -51,8 +51,10 @@ impl Kind {
     {
         let tag = self.tag;
         match tag {
-            Kind::VARIABLE_REFERENCE => false,
-            _ => true,
+            Kind::NULL | Kind::BOOL | Kind::INT | Kind::FLOAT | Kind::STRING => true,
+            Kind::ARRAY | Kind::OBJECT => true,
+            Kind::OBJECT_REFERENCE => true,
+            _ => false,
         }
     }
 
