@@ -8,7 +8,7 @@ use mathlib.Core.Bool.{Bool, true, false, true≢false}
 use mathlib.Core.Logic.{⊎-elim}
 use lib.Dec.{leb, leb→le, not-T}
 use lib.ListN.{length, take, drop, replicate, drop-of-length-le}
-use lib.Seq.{sets-eq, length-sets, take-append-seam}
+use lib.Seq.{sets, sets-eq, length-sets, take-append-seam}
 use borrow.Author.Tests.{le-leb, lt-leb}
 use Rattle.decimal.proofs.Decide.{Order, below, above, order, T-of, T-true, T-false, and-left, and-right}
 use Rattle.format.specs.Syntax.{Value, print}
@@ -24,18 +24,19 @@ use Rattle.format.proofs.Results.{after-length}
 use Rattle.format.specs.Writing.{fitsIn, withRoom, canonicalBytes, insertionOf, insertBytes}
 use Rattle.format.proofs.Answers.{not-both, bind-refused}
 use Rattle.editor.specs.Promise.{writingAnswer, Writes}
-use Rattle.editor.specs.Ends.{roomAnswer, Refuses, Settles, Short, Spared, shrinks, short, Roomed, EditFits}
+use Rattle.editor.specs.Ends.{roomAnswer, roomOf, Refuses, Settles, Short, Spared, shrinks, short, Roomed, EditFits}
 use Rattle.tokens.specs.Tokens.{Token, tokens, writeTokens}
 use Rattle.tokens.specs.Between.{Stretch}
 use Rattle.tokens.proofs.TokenLaws.{tokens-write, tokens-canonical, tokens-fit}
 use Rattle.tokens.proofs.Stretches.{between-stretch}
 use Rattle.rewriting.specs.declared.Edit.{Edit}
+use Rattle.rewriting.specs.declared.Edited.{Edited}
 use Rattle.rewriting.specs.declared.rewrite.Change.{Change}
 use Rattle.rewriting.specs.Output.{Puts}
 use Rattle.rewriting.specs.Rewriting.{changedText}
-use Rattle.rewriting.specs.Edited.{canonicalText, editedText, writable, Parted}
+use Rattle.rewriting.specs.Edited.{canonicalText, editedText, writable, editedAnswer, Edits, Parted}
 use Rattle.rewriting.specs.declared.inserted.Spot.{Spot}
-use Rattle.rewriting.proofs.Editable.{by-spot, edited-most}
+use Rattle.rewriting.proofs.Editable.{answer-by, output-by, by-spot, edited-most}
 use Rattle.rewriting.proofs.Measures.{texts-inside, canonical-text-most}
 use Rattle.placing.specs.declared.Placing.{Placing}
 use Rattle.placing.specs.Locating.{placingAnswer, spotFor, tableLocated, Locates}
@@ -53,8 +54,8 @@ pub room-is : (room length : ℕ) → length ≤ room → fitsIn room length ≡
 room-is room length h = rw (le-leb length room h)
 
 -- a text put where there is no room for any of it leaves nothing
-pub untouched : {bytes : List ℕ} {n : ℕ} {part : List ℕ} → Puts bytes 0 [] n part → (out : List ℕ) → part ++ out ≡ out
-untouched {bytes} {part = part} measured out = go part (ap length (measured .text) ∙ length-sets [] 0 bytes)
+untouched : {part : List ℕ} (bytes : List ℕ) → part ≡ sets [] 0 bytes → (out : List ℕ) → part ++ out ≡ out
+untouched {part} bytes e out = go part (ap length e ∙ length-sets [] 0 bytes)
   where
     go : (p : List ℕ) → length p ≡ 0 → p ++ out ≡ out
     go [] e = refl
@@ -181,11 +182,25 @@ pub says-exceeded : {b : Bool} → b ≡ false → roomAnswer Room.Exceeded ≡ 
 unfolding roomAnswer
 says-exceeded f = sym (ap (λ (b : Bool). require b 14 0) f)
 
--- of a text that was measured
-pub measured-roomed : (source : List ℕ) (e : Edit) (key value out : List ℕ) {n : ℕ} {part : List ℕ} → Puts (editedText source e key value) 0 [] n part
-    → {b : Bool} → b ≡ fitsIn (length out) n → {r : Room} → roomAnswer r ≡ require b 14 0 → Roomed source e key value out (part ++ out) r
-measured-roomed source e key value out put i a =
-    record { answer = a ∙ ap (λ (b : Bool). require b 14 0) (i ∙ ap (fitsIn (length out)) (size put)); same = untouched put out }
+pub size-of : {m : Edited} {n : ℕ} (room : ℕ) → m ≡ Edited.Written n → roomOf room (editedAnswer m) ≡ require (fitsIn room n) 14 0
+unfolding editedAnswer
+size-of room e = ap (λ (m : Edited). roomOf room (editedAnswer m)) e
+
+pub unfit-exceeded : {m : Edited} (room : ℕ) → m ≡ Edited.Unfit → roomAnswer Room.Exceeded ≡ roomOf room (editedAnswer m)
+unfolding editedAnswer roomAnswer
+unfit-exceeded room e = ap (λ (m : Edited). roomOf room (editedAnswer m)) (sym e)
+
+-- of an edit that was measured
+pub measured-roomed : {source : List ℕ} {e : Edit} {key value : List ℕ} → EditFits source e key value → (out : List ℕ) {part : List ℕ} {m : Edited}
+    → Edits source e key value [] part m → {r : Room} → roomAnswer r ≡ roomOf (length out) (editedAnswer m) → Roomed source e key value out (part ++ out) r
+measured-roomed {source} {e} {key} {value} z out {part} g {r} a = by (writable (length source) e (length key) (length value)) refl
+  where
+    by : (b : Bool) → writable (length source) e (length key) (length value) ≡ b → Roomed source e key value out (part ++ out) r
+    by true f = record { answer = a ∙ ap (roomOf (length out)) (answer-by g true f); same = untouched (editedText source e key value) (output-by g true f) out }
+    by false f = record {
+      answer = a ∙ ap (roomOf (length out)) (answer-by g false f) ∙ sym (ap (λ (b : Bool). require b 14 0) (unfit-14 z (length out) f));
+      same = ap (λ (p : List ℕ). p ++ out) (output-by g false f);
+    }
 
 -- what was said of it
 module _ {source : List ℕ} {e : Edit} {key value out out′ : List ℕ} {r : Room} (g : Roomed source e key value out out′ r) where

@@ -5,7 +5,7 @@ use mathlib.Core.Bool.{true}
 use Prim.Native.Nat.{ℕ, _+_, _*_, _≤_}
 use lib.ListN.{length}
 use Rattle.format.specs.Limits.{sourceLimit}
-use Rattle.format.specs.Answer.{Answer, ok, refused, require}
+use Rattle.format.specs.Answer.{Answer, ok, refused, _>>=_, require}
 use Rattle.format.specs.Reading.{cleared, tableAfter}
 use Rattle.format.specs.Writing.{fitsIn, withRoom}
 use Rattle.rewriting.specs.declared.Edit.{Edit}
@@ -19,6 +19,10 @@ use Rattle.editor.specs.Promise.{writingAnswer, Writes}
 unfoldable pub roomAnswer : Room → Answer (Unit {0})
 roomAnswer Room.Enough = ok tt
 roomAnswer Room.Exceeded = refused 14 0
+
+-- of a text by its length
+abbrev pub roomOf : (room : ℕ) → (size : Answer ℕ) → Answer (Unit {0})
+roomOf room size = size >>= λ n. require (fitsIn room n) 14 0
 
 -- so answered, the plan having been read
 pub record Refuses (t t′ : List ℕ) (r : Writing) : Type 0 where
@@ -50,7 +54,7 @@ pub record EditFits (s : List ℕ) (e : Edit) (k v : List ℕ) : Type 0 where
 
 -- 14; the output is as it was
 pub record Roomed (s : List ℕ) (e : Edit) (key value out out′ : List ℕ) (r : Room) : Type 0 where
-  pub answer : roomAnswer r ≡ require (fitsIn (length out) (length (editedText s e key value))) 14 0
+  pub answer : roomAnswer r ≡ roomOf (length out) (ok (length (editedText s e key value)))
   pub same : out′ ≡ out
 
 -- the answer, the table and the output, the bytes to write being known

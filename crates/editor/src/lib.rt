@@ -19,7 +19,8 @@ ghost use Rattle.format.specs.Reading.{capacityOf};
 ghost use Rattle.format.specs.Writing.{fitsIn, canonicalBytes, insertBytes};
 ghost use Rattle.placing.specs.Locating.{placingAnswer};
 ghost use Rattle.editor.specs.Promise.{Writes};
-ghost use Rattle.editor.specs.Ends.{Refuses, Settles, Short, Spared, EditFits, Roomed, Finishes};
+ghost use Rattle.rewriting.specs.Edited.{editedAnswer};
+ghost use Rattle.editor.specs.Ends.{roomAnswer, roomOf, Refuses, Settles, Short, Spared, EditFits, Roomed, Finishes};
 
 // What is written of so short a source, key and value is never longer than a plan may be (`edited-most`, crates/rewriting): a reference has four bytes or more
 // and grows by one at the most, and the parts of an insertion are stretches of the source, which placing promises (`Parted`). So five quarters of the source,
@@ -97,6 +98,19 @@ fn is_spared(room: usize, edit: Edit, source: usize, key: usize, value: usize) -
     }
 }
 
+// Whether there is room for a text that was measured; what is not edited at all would be longer than any plan.
+fn room_of(room: usize, measured: Edited) -> Room
+    ensures { λ r. ⌜ roomAnswer r ≡ roomOf room (editedAnswer measured) ⌝ }
+{
+    let Edited::Written(length) = measured else {
+        return Room::Exceeded;
+    };
+    if has_room(room, length) {
+        return Room::Enough;
+    }
+    Room::Exceeded
+}
+
 // Whether there is room for the edited plan. Written where there is none for any of it, in the empty part of the output, a longer one is only measured: so one
 // loop measures and writes, and a refusal has written nothing.
 fn room_for(source: &[u8], edit: Edit, key: &[u8], value: &[u8], out: &mut [u8]) -> Room
@@ -108,13 +122,7 @@ fn room_for(source: &[u8], edit: Edit, key: &[u8], value: &[u8], out: &mut [u8])
         return Room::Enough;
     }
     let measured = write(source, edit, key, value, &mut out[..0]);
-    let Edited::Written(length) = measured else {
-        return Room::Exceeded;
-    };
-    if has_room(room, length) {
-        return Room::Enough;
-    }
-    Room::Exceeded
+    room_of(room, measured)
 }
 
 // 14, and then the edited plan is written and read.

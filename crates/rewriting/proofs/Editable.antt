@@ -124,11 +124,12 @@ pub record Untouched (s : List ℕ) (e : Edit) (key value out out′ : List ℕ)
   pub same : out′ ≡ out
 
 module _ {s : List ℕ} {e : Edit} {key value out out′ : List ℕ} {r : Edited} (g : Edits s e key value out out′ r) where
-  answer-by : (b : Bool) → writable (length s) e (length key) (length value) ≡ b
+  -- by the test
+  pub answer-by : (b : Bool) → writable (length s) e (length key) (length value) ≡ b
       → editedAnswer r ≡ lengthEdited (require b 14 0 >>= λ u. ok (editedText s e key value))
   answer-by b f = g .answer ∙ ap lengthEdited (bytes-by s e key value b f)
 
-  output-by : (b : Bool) → writable (length s) e (length key) (length value) ≡ b
+  pub output-by : (b : Bool) → writable (length s) e (length key) (length value) ≡ b
       → out′ ≡ outputEdited (require b 14 0 >>= λ u. ok (editedText s e key value)) out
   output-by b f = g .output ∙ ap (λ (a : Answer (List ℕ)). outputEdited a out) (bytes-by s e key value b f)
 

@@ -6,7 +6,7 @@ use Rattle.editor.proofs.has_room.Statement.{statement}
 use Rattle.editor.proofs.has_room.Tie as tie
 
 returns : tie.Need-returns
-returns c = sym (ended.room-short _ _ (c .if1 .taken))
+returns c = sym (ended.room-short (c .before .args .room) (c .before .args .length) (omega (arith, c .if1 .taken)))
 
 returns-2 : tie.Need-returns-2
 returns-2 c = sym (ended.room-is (c .before .args .room) (c .before .args .length) (omega (arith, c .if1 .left)))

@@ -17,6 +17,17 @@ module _ (c : tie.Else1) where
   fit : writable (length (start .args .source .now)) (start .args .edit) (length (start .args .key .now)) (length (start .args .value .now)) ≡ true
   fit = sym (c .before .can-write .ensures) ∙ not-false _ (c .if1 .left)
 
+-- the text first: what an edit breaks is seen there
+returns-2 : tie.Need-returns-2
+returns-2 c =
+    let told = c .before .before .before .before in
+    editable.puts-edited _ _ _ _ (fit (told .before .before)) (editable.as-canonical _ _ _ (told .enum-told .given .1)) (c .before .before .rewrite .ensures)
+
+returns-3 : tie.Need-returns-3
+returns-3 c =
+    let known = c .before .before .before .before .before in
+    editable.puts-edited _ _ _ _ (fit (known .before .before)) (editable.as-insert _ _ _ (known .edit .given .1)) (c .before .before .write-inserted .ensures)
+
 can-write-requires : tie.Need-can-write-requires
 can-write-requires c κs = search needs
 
@@ -40,18 +51,8 @@ write-inserted-requires c κs = editable.insert-room _ _ _ _ (fit (c .before .be
 same-length : tie.Need-same-length
 same-length c = search needs
 
-returns-2 : tie.Need-returns-2
-returns-2 c =
-    let told = c .before .before .before .before in
-    editable.puts-edited _ _ _ _ (fit (told .before .before)) (editable.as-canonical _ _ _ (told .enum-told .given .1)) (c .before .before .rewrite .ensures)
-
 same-length-2 : tie.Need-same-length-2
 same-length-2 c = search needs
-
-returns-3 : tie.Need-returns-3
-returns-3 c =
-    let known = c .before .before .before .before .before in
-    editable.puts-edited _ _ _ _ (fit (known .before .before)) (editable.as-insert _ _ _ (known .edit .given .1)) (c .before .before .write-inserted .ensures)
 
 pub write-spec : {M : Type 1} → statement M
 write-spec =

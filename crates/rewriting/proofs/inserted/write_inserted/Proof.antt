@@ -5,6 +5,18 @@ use borrow.Author.Needs.{needs}
 use Rattle.rewriting.proofs.inserted.write_inserted.Statement.{statement}
 use Rattle.rewriting.proofs.inserted.write_inserted.Tie as tie
 
+-- the text first: what an edit breaks is seen there
+returns : tie.Need-returns
+returns c =
+    let valued = c .before .before .before .before .before .before in
+    let keyed = valued .before .before .before .before in
+    let upto = keyed .before .before .before .before in
+    let counted = upto .before .before .before .before in
+    let front = counted .before .before .before .before .before in
+    let insertable = front .before .before .before .before .before .before .pre in
+    texts.all-put insertable (front .rewrite .ensures) (counted .numbered .ensures) (upto .rewrite2 .ensures) (keyed .copy .ensures)
+    (valued .copy2 .ensures) (c .before .before .rewrite3 .ensures)
+
 rewrite-requires : tie.Need-rewrite-requires
 rewrite-requires c κs = texts.front-within (c .before .before .before .before .before .pre)
 
@@ -60,17 +72,6 @@ rewrite-requires-3 c κs =
 
 same-length : tie.Need-same-length
 same-length c = search needs
-
-returns : tie.Need-returns
-returns c =
-    let valued = c .before .before .before .before .before .before in
-    let keyed = valued .before .before .before .before in
-    let upto = keyed .before .before .before .before in
-    let counted = upto .before .before .before .before in
-    let front = counted .before .before .before .before .before in
-    let insertable = front .before .before .before .before .before .before .pre in
-    texts.all-put insertable (front .rewrite .ensures) (counted .numbered .ensures) (upto .rewrite2 .ensures) (keyed .copy .ensures)
-    (valued .copy2 .ensures) (c .before .before .rewrite3 .ensures)
 
 pub write-inserted-spec : {M : Type 1} → statement M
 write-inserted-spec =
