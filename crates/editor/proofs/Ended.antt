@@ -13,7 +13,8 @@ use borrow.Author.Tests.{le-leb, lt-leb}
 use Rattle.decimal.proofs.Decide.{Order, below, above, order, T-of, T-true, T-false, and-left, and-right}
 use Rattle.format.specs.Syntax.{Value, print}
 use Rattle.format.specs.Limits.{sourceLimit}
-use Rattle.format.specs.Answer.{Answer, ok, refused, _>>=_, require, codeOf, positionOf}
+use Rattle.format.specs.Answer.{Answer, ok, refused, _>>=_, require, refusalOf}
+use Rattle.format.specs.declared.codes.Refusal.{Refusal}
 use Rattle.format.specs.Read.{read}
 use Rattle.format.specs.Canonical.{canonical}
 use Rattle.format.specs.Reading.{capacityOf, cleared, over, tableAfter}
@@ -292,9 +293,9 @@ module _ {source : List ℕ} {node place : ℕ} {key value before after : List �
         let s = bind-refused (insertionOf (capacityOf before) source node place key value) _ code at refused-is in
         ⊎-elim (λ i. rw i) (λ i. absurd (not-both (sym (i .2)))) s
 
-    pub writes-unplaced : (out : List ℕ) {c p : ℕ} → c ≡ codeOf (placingAnswer placing) → p ≡ positionOf (placingAnswer placing)
-        → Writes (insertBytes (capacityOf before) (length out) source node place key value) source before after out out (Writing.Refused c p)
-    writes-unplaced out f h =
-        writes-refused source before out (insert-refused (length out) ∙ ap₂ refused (sym (f ∙ ap (λ (x : Placing). codeOf (placingAnswer x)) e))
-        (sym (h ∙ ap (λ (x : Placing). positionOf (placingAnswer x)) e)))
+    pub writes-unplaced : (out : List ℕ) {r : Refusal} → r ≡ refusalOf (placingAnswer placing)
+        → Writes (insertBytes (capacityOf before) (length out) source node place key value) source before after out out (Writing.Refused (r .code) (r .at))
+    writes-unplaced out h =
+        writes-refused source before out
+        (insert-refused (length out) ∙ ap (λ (r : Refusal). refused (r .code) (r .at)) (sym (h ∙ ap (λ (x : Placing). refusalOf (placingAnswer x)) e)))
         (l .table ∙ ap (λ (a : Answer Spot). tableLocated a source before) refused-is)

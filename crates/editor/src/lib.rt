@@ -4,6 +4,7 @@
 // Both end in `write_plan`. Four crates make the services, so that an edit proves a quarter of the code again: tokens (what a plan is made of), rewriting (what
 // an edit writes), placing (reading, and the steps before writing) and this one (14, writing, reading again). Each rests on the promises of those below alone.
 use format::codes::OUTPUT_TOO_SHORT;
+use format::codes::Refusal;
 use format::limits::SOURCE_LIMIT;
 use placing::Placing;
 use placing::locate;
@@ -14,7 +15,7 @@ use rewriting::write;
 ghost use mathlib.Core.Path.{_≡_};
 ghost use mathlib.Core.Bool.{true};
 ghost use lib.ListN.{length};
-ghost use Rattle.format.specs.Answer.{codeOf, positionOf};
+ghost use Rattle.format.specs.Answer.{refusalOf};
 ghost use Rattle.format.specs.Reading.{capacityOf};
 ghost use Rattle.format.specs.Writing.{fitsIn, canonicalBytes, insertBytes};
 ghost use Rattle.placing.specs.Locating.{placingAnswer};
@@ -167,23 +168,13 @@ pub fn canonicalize(source: &[u8], table: &mut [u64], out: &mut [u8]) -> Writing
     }
 }
 
-// The number of placing's refusal; 0 for a spot, since no refusal has number 0.
-fn code_of(placing: Placing) -> u8
-    ensures { λ r. ⌜ r ≡ codeOf (placingAnswer placing) ⌝ }
+// Placing's refusal; 0 at 0 for a spot, since no refusal has number 0.
+fn refusal_of(placing: Placing) -> Refusal
+    ensures { λ r. ⌜ r ≡ refusalOf (placingAnswer placing) ⌝ }
 {
     match placing {
-        Placing::At(_) => 0,
-        Placing::Refused { code, at: _ } => code,
-    }
-}
-
-// Its position; 0 for a spot.
-fn position_of(placing: Placing) -> usize
-    ensures { λ r. ⌜ r ≡ positionOf (placingAnswer placing) ⌝ }
-{
-    match placing {
-        Placing::At(_) => 0,
-        Placing::Refused { code: _, at } => at,
+        Placing::At(_) => Refusal { code: 0, at: 0 },
+        Placing::Refused { code, at } => Refusal { code, at },
     }
 }
 
@@ -204,9 +195,10 @@ pub fn insert(
 {
     let placing = locate(source, array_node, pair_index, key, value, table);
     let Placing::At(spot) = placing else {
+        let refusal = refusal_of(placing);
         return Writing::Refused {
-            code: code_of(placing),
-            at: position_of(placing),
+            code: refusal.code,
+            at: refusal.at,
         };
     };
     write_plan(source, Edit::Insert(spot), key, value, table, out)

@@ -1,6 +1,7 @@
 -- The answer of a part of reading: what was read, or a refusal with its number and position.
 use mathlib.Core.Bool.{Bool, true, false}
 use Prim.Native.Nat.{ℕ}
+use Rattle.format.specs.declared.codes.Refusal.{Refusal}
 
 pub data Answer (A : Type 0) : Type 0 where
   ok : A → Answer A
@@ -16,11 +17,7 @@ abbrev pub require : Bool → (code at : ℕ) → Answer (Unit {0})
 require true n p = ok tt
 require false n p = refused n p
 
--- "A refusal returns its number and a position": 0 where there is none, since no refusal has number 0
-abbrev pub codeOf : {A : Type 0} → Answer A → ℕ
-codeOf (ok a) = 0
-codeOf (refused n p) = n
-
-abbrev pub positionOf : {A : Type 0} → Answer A → ℕ
-positionOf (ok a) = 0
-positionOf (refused n p) = p
+-- "A refusal returns its number and a position": 0 and 0 where there is none, since no refusal has number 0
+abbrev pub refusalOf : {A : Type 0} → Answer A → Refusal
+refusalOf (ok a) = record { code = 0; at = 0 }
+refusalOf (refused n p) = record { code = n; at = p }

@@ -1,4 +1,8 @@
-// The numbers of the table of refusals, for code.
+// Refusals, for code: "A refusal returns its number and a position".
+pub struct Refusal {
+    pub code: u8,
+    pub at: usize,
+}
 
 // "plan longer than 65,536 bytes"
 pub const SOURCE_TOO_LONG: u8 = 1;

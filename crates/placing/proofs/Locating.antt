@@ -1,10 +1,11 @@
 -- From reading to the place. Assumes nothing.
 use Prim.Native.Nat.{ℕ, _/_}
-use mathlib.Core.Path.{_≡_, sym, ap, ap₂, _∙_, subst}
+use mathlib.Core.Path.{_≡_, sym, ap, _∙_, subst}
 use mathlib.Core.List.{List}
 use lib.ListN.{length, replicate}
 use Rattle.format.specs.Fits.{IsPlan}
-use Rattle.format.specs.Answer.{Answer, refused, codeOf, positionOf}
+use Rattle.format.specs.Answer.{Answer, refused, refusalOf}
+use Rattle.format.specs.declared.codes.Refusal.{Refusal}
 use Rattle.format.specs.Table.{width}
 use Rattle.format.specs.Reading.{capacityOf, cleared, Counts}
 use Rattle.format.proofs.Inversion.{read-ok}
@@ -27,14 +28,14 @@ unread s capacity node place key value {c} {p} u = rw (row-step capacity s node 
 module _ {s t t′ : List ℕ} {reading : Reading} (r : Reads s t t′ reading) where
   -- ---- reading's refusal is inserting's
 
-  pub locates-unread : (node place : ℕ) (key value : List ℕ) {code at c p : ℕ} → reading ≡ Reading.Refused code at
-      → c ≡ codeOf (readingAnswer reading) → p ≡ positionOf (readingAnswer reading) → Locates s node place key value t t′ (Placing.Refused c p)
+  pub locates-unread : (node place : ℕ) (key value : List ℕ) {code at : ℕ} → reading ≡ Reading.Refused code at → {f : Refusal}
+      → f ≡ refusalOf (readingAnswer reading) → Locates s node place key value t t′ (Placing.Refused (f .code) (f .at))
   unfolding readingAnswer
-  locates-unread node place key value {code} {at} e f h =
+  locates-unread node place key value {code} {at} e h =
       let u = refusal (subst (Reads s t t′) e r) in
       let told : spotFor (capacityOf t) s node place key value ≡ refused code at = unread s (capacityOf t) node place key value u in
       record {
-        answer = ap₂ refused (f ∙ ap (λ (x : Reading). codeOf (readingAnswer x)) e) (h ∙ ap (λ (x : Reading). positionOf (readingAnswer x)) e) ∙ sym told;
+        answer = ap (λ (r : Refusal). refused (r .code) (r .at)) (h ∙ ap (λ (x : Reading). refusalOf (readingAnswer x)) e) ∙ sym told;
         table = r .table ∙ after-refused s t code at u ∙ ap (λ (a : Answer Spot). tableLocated a s t) (sym told);
       }
 

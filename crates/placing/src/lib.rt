@@ -3,10 +3,11 @@
 // has: 1 to 10 with reading's position, or 11, 12, 13, 9, 8 or 7 at 0, every word of the table zero. The editor calls `locate`.
 // Facts come from the table (the array's count, ordinal and keys, and where its pairs begin), positions from the bytes: no tag's position stands in the table.
 use crate::spot::find_spot;
+use format::codes::Refusal;
 use reader::Reading;
 use rewriting::inserted::Spot;
 ghost use mathlib.Core.Path.{_≡_};
-ghost use Rattle.format.specs.Answer.{codeOf, positionOf};
+ghost use Rattle.format.specs.Answer.{refusalOf};
 ghost use Rattle.reader.specs.Promise.{readingAnswer};
 ghost use Rattle.placing.specs.Locating.{Locates};
 
@@ -22,29 +23,16 @@ pub enum Placing {
     Refused { code: u8, at: usize },
 }
 
-// The number of reading's refusal; 0 for an acceptance, since no refusal has number 0.
-fn code_of(reading: Reading) -> u8
-    ensures { λ r. ⌜ r ≡ codeOf (readingAnswer reading) ⌝ }
+// Reading's refusal; 0 at 0 for an acceptance, since no refusal has number 0.
+fn refusal_of(reading: Reading) -> Refusal
+    ensures { λ r. ⌜ r ≡ refusalOf (readingAnswer reading) ⌝ }
 {
     match reading {
         Reading::Accepted {
             nodes: _,
             ordinals: _,
-        } => 0,
-        Reading::Refused { code, at: _ } => code,
-    }
-}
-
-// Its position; 0 for an acceptance.
-fn position_of(reading: Reading) -> usize
-    ensures { λ r. ⌜ r ≡ positionOf (readingAnswer reading) ⌝ }
-{
-    match reading {
-        Reading::Accepted {
-            nodes: _,
-            ordinals: _,
-        } => 0,
-        Reading::Refused { code: _, at } => at,
+        } => Refusal { code: 0, at: 0 },
+        Reading::Refused { code, at } => Refusal { code, at },
     }
 }
 
@@ -62,9 +50,10 @@ pub fn locate(
 {
     let reading = reader::read(source, table);
     let Reading::Accepted { nodes, ordinals: _ } = reading else {
+        let refusal = refusal_of(reading);
         return Placing::Refused {
-            code: code_of(reading),
-            at: position_of(reading),
+            code: refusal.code,
+            at: refusal.at,
         };
     };
     let placing = find_spot(source, table, nodes, array_node, pair_index, key, value);

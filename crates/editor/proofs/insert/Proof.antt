@@ -13,20 +13,17 @@ enum-known-placing c = search needs
 enum-told : tie.Need-enum-told
 enum-told c = search needs
 
-code-of-requires : tie.Need-code-of-requires
-code-of-requires c κs = search needs
-
-position-of-requires : tie.Need-position-of-requires
-position-of-requires c κs = search needs
+refusal-of-requires : tie.Need-refusal-of-requires
+refusal-of-requires c κs = search needs
 
 same-length : tie.Need-same-length
 same-length c = search needs
 
 returns : tie.Need-returns
 returns c =
-    let told = c .before .before in
+    let told = c .before in
     let placed = told .before .before .before .before in
-    ended.writes-unplaced (placed .locate .ensures) (told .enum-told .given .1) _ (c .before .code-of .ensures) (c .position-of .ensures)
+    ended.writes-unplaced (placed .locate .ensures) (told .enum-told .given .1) _ (c .refusal-of .ensures)
 
 write-plan-requires : tie.Need-write-plan-requires
 write-plan-requires c κs =
@@ -53,8 +50,7 @@ insert-spec =
     locate-requires
     enum-known-placing
     enum-told
-    code-of-requires
-    position-of-requires
+    refusal-of-requires
     same-length
     returns
     write-plan-requires

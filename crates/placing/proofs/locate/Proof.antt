@@ -13,20 +13,17 @@ enum-known-reading c = search needs
 enum-told : tie.Need-enum-told
 enum-told c = search needs
 
-code-of-requires : tie.Need-code-of-requires
-code-of-requires c κs = search needs
-
-position-of-requires : tie.Need-position-of-requires
-position-of-requires c κs = search needs
+refusal-of-requires : tie.Need-refusal-of-requires
+refusal-of-requires c κs = search needs
 
 same-length : tie.Need-same-length
 same-length c = search needs
 
 returns : tie.Need-returns
 returns c =
-    let told = c .before .before in
+    let told = c .before in
     let read = told .before .before .before .before in
-    locating.locates-unread (read .read .ensures) _ _ _ _ (told .enum-told .given .1) (c .before .code-of .ensures) (c .position-of .ensures)
+    locating.locates-unread (read .read .ensures) _ _ _ _ (told .enum-told .given .1) (c .refusal-of .ensures)
 
 find-spot-requires : tie.Need-find-spot-requires
 find-spot-requires c κs =
@@ -71,8 +68,7 @@ locate-spec =
     read-requires
     enum-known-reading
     enum-told
-    code-of-requires
-    position-of-requires
+    refusal-of-requires
     same-length
     returns
     find-spot-requires
