@@ -18,6 +18,7 @@ use Rattle.format.specs.Keys.{hasKey}
 use Rattle.format.specs.Answer.{Answer, ok, refused, _>>=_, require}
 use Rattle.format.specs.Read.{keyText, readKey}
 use Rattle.format.specs.Table.{Node, words, width, wordAt, tagWord, contentWord, sizeWord, keyNode, textOffset}
+use Rattle.format.proofs.Answers.{not-both}
 use Rattle.format.proofs.Texts.{KeyKind, is-int, is-string, keyText-ok}
 use Rattle.format.proofs.Fronts.{number-length, quoted-length}
 use Rattle.format.proofs.Places.{quoted-text}
@@ -34,7 +35,7 @@ use Rattle.reader.specs.Nodes.{nodeOf, NodeAdded}
 use Rattle.key_filter.specs.Filter.{Grows}
 use Rattle.reader.specs.declared.seen.Seen.{Seen}
 use Rattle.reader.specs.KeysSeen.{Known, next, Tested}
-use Rattle.reader.specs.Steps.{Fit, GoodKey, MeetsKey, Remembers, keyAt, refusalOf}
+use Rattle.reader.specs.Steps.{stepAnswer, Fit, GoodKey, MeetsKey, Remembers, keyAt, refusalOf}
 use Rattle.reader.proofs.Tagged.{position-is, tag-end, tag-other, tag-is, key-kind-is, key-any, one-of}
 use Rattle.reader.proofs.Bodies.{key-told, key-of-int, key-of-string}
 use Rattle.reader.proofs.Stored.{run-word}
@@ -123,7 +124,7 @@ added-words t t′ c c′ b x room p =
 
 pub none-more : (s t t′ m m′ : List ℕ) (first node : ℕ) (seen : Seen) (r : Step) (code at : ℕ) → r ≡ Step.Refused code at → Grows m m′
     → Remembers s t t′ m m′ first node seen r
-none-more s t t′ m m′ first node seen r code at e g = record { grows = g; known = λ c′ q. absurd (let z : _≡_ {A = ℕ} 0 1 = cc in omega arith) }
+none-more s t t′ m m′ first node seen r code at e g = record { grows = g; known = λ c′ q. absurd (not-both (sym (ap stepAnswer e) ∙ q)) }
 
 pub one-more : (s t t′ m m′ : List ℕ) (first capacity : ℕ) (seen : Seen) (c c′ : Cursor) (b : ℕ) (x : Text) (r : Step) (found : Bool) → Fit s t capacity c
     → c .node < capacity → Tested s t m m′ first (c .node) (record { tag = b; content = x .content; size = x .size }) seen found → NodeAdded t t′ c b x false c′
