@@ -9,7 +9,7 @@ use lib.Dec.{T, ltb, leb, lit<}
 use lib.ListN.{length, getD, drop}
 use lib.Seq.{sets}
 use borrow.Author.Tests.{lt-ltb, le-ltb, le-leb, lt-leb}
-use Rattle.format.specs.Kind.{kinds, tag, isTagOf, hasOrdinal}
+use Rattle.format.specs.Kind.{kinds, scalarKinds, tag, isTagOf, hasOrdinal}
 use Rattle.format.specs.Tree.{leaf, ref, nodes, ordinals, one}
 use Rattle.format.specs.Syntax.{Reference, Value, own}
 use Rattle.format.specs.Limits.{Seen}
@@ -25,7 +25,7 @@ use Rattle.reader.specs.declared.cursor.Step.{Step}
 use Rattle.reader.specs.Texts.{kindFor, scalarTag, referenceTag}
 use Rattle.reader.specs.Nodes.{nodeOf, NodeAdded, CarrierIn}
 use Rattle.reader.specs.Steps.{Points, Takes, Fit, KeptBelow, GoodValue, Meets, IsOpen, valueAt, bodyAt, innerAt, refusalOf}
-use Rattle.reader.proofs.Tagged.{position-is, tag-end, tag-other, tag-is}
+use Rattle.reader.proofs.Tagged.{position-is, tag-end, tag-other, tag-is, passes}
 use Rattle.reader.proofs.Bodies.{body-scalar, scalar-node, refFor, resolved, body-reference, ref-tag}
 use Rattle.reader.proofs.Stored.{run-kept, run-word, points-kept, points-add, link-is}
 
@@ -172,11 +172,12 @@ module _ (s : List ℕ) (capacity : ℕ) (c : Cursor) (b : ℕ) (is : scalarTag 
   scalar-not t t′ scan code r h e q =
       meets-bad s t t′ capacity c (bodyAt s capacity inner b c) r code (c .at) (refused-is scan code (c .at) r q e) (opened ∙ rw (unfit-of h e (c .at)))
 
-  pub scalar-good : (t t′ : List ℕ) (x : Text) (c′ : Cursor) → Fit s t capacity c → c .node < capacity
-      → Found (scalarText (kindFor b)) (scalarTold (c .at + 1)) s (c .at + 1) x → NodeAdded t t′ c b x true c′
+  pub scalar-good : (t t′ : List ℕ) (x : Text) (c′ : Cursor) (takes : Bool) → Fit s t capacity c → c .node < capacity
+      → Found (scalarText (kindFor b)) (scalarTold (c .at + 1)) s (c .at + 1) x → takes ≡ hasOrdinal b → NodeAdded t t′ c b x takes c′
       → GoodValue s t t′ capacity c (bodyAt s capacity inner b c) c′
-  scalar-good t t′ x c′ fit room f p =
-      leaf-good s t t′ capacity c c′ b x true fit room p (bodyAt s capacity inner b c) (leaf (f .what)) (opened ∙ rw (f .is (c .at))) (omega (arith, f .on))
+  scalar-good t t′ x c′ takes fit room f e p =
+      let q : NodeAdded t t′ c b x true c′ = subst (λ (own : Bool). NodeAdded t t′ c b x own c′) (e ∙ passes hasOrdinal scalarKinds b tt is) p in
+      leaf-good s t t′ capacity c c′ b x true fit room q (bodyAt s capacity inner b c) (leaf (f .what)) (opened ∙ rw (f .is (c .at))) (omega (arith, f .on))
       (f .inside) refl refl
       (λ to q. ap (λ (n : Node). n ∷ []) (scalar-node b (c .at) (c .at) (c .node) (suc (c .ordinal)) (x .next) (drop (c .at + 1) s) (
         f .what,

@@ -32,7 +32,7 @@ fn put_scalar(
     let Scan::Is(text) = scan else {
         return refused(scan, cursor.at);
     };
-    Step::Done(add_node(table, cursor, tag, text, true))
+    Step::Done(add_node(table, cursor, tag, text, Kind { tag }.has_ordinal()))
 }
 
 // A scalar: its text, then its node.

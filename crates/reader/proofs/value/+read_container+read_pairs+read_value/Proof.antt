@@ -122,7 +122,7 @@ container-read-pairs-requires t c κs =
     let fit = start .pre .1 .0 in
     let given = start .pre .1 .1 in
     let is = found-of (headed .head .ensures) (found .scan .given .1) in
-    let first = opened .open-node .ensures .cursor in (
+    let first = containers.first-pair _ _ _ _ _ _ (given .3) (opened .open-node .ensures) in (
       omega (arith, ap (λ (i : Cursor). i .at) first, is .on, is .inside),
       containers.first-fit _ _ _ _ _ _ _ first (is .inside) fit (given .1) (opened .open-node .kept .0),
     )
@@ -134,10 +134,11 @@ container-returns-2 t c =
     let found = opened .before .before .before in
     let headed = found .before .before in
     let start = headed .before .before .before .before in
+    let tagged = start .pre .1 .1 .3 in
     let is = found-of (headed .head .ensures) (found .scan .given .1) in
     let refused = subst (MeetsPairs _ _ _ _ _ _) (c .enum-told2 .given .1) (called .read-pairs .ensures .0) in (
       leaves.meets-bad _ _ _ _ _ _ _ _ _ (c .enum-told2 .given .1)
-          (containers.pairs-refused _ _ _ _ (start .pre .1 .1 .3) _ is _ (opened .open-node .ensures .cursor) _ _ refused),
+          (containers.pairs-refused _ _ _ _ tagged _ is _ (containers.first-pair _ _ _ _ _ _ tagged (opened .open-node .ensures)) _ _ refused),
       called .read-pairs .ensures .1,
     )
 
