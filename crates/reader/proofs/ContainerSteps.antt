@@ -13,26 +13,25 @@ use Rattle.format.specs.Kind.{Kind, hasOrdinal}
 use Rattle.format.specs.Tree as tree
 use Rattle.format.specs.Tree.{branch, nodesIn, one}
 use Rattle.format.specs.Syntax.{array, object, Spelling, Container, Value, Values}
-use Rattle.format.specs.Answer.{Answer, ok, refused, _>>=_}
+use Rattle.format.specs.Answer.{Answer, ok, refused, _>>=_, codeOf}
 use Rattle.format.specs.Read.{expect, isArray, readPairs, setting, Inner}
 use Rattle.format.specs.Table.{Node, words, width, endWord, flat, branchNode, pairsOffset, taken, table, tableIn}
 use Rattle.format.proofs.Inversion.{pairs-count}
 use Rattle.scanner.specs.declared.Text.{Text}
 use Rattle.scanner.specs.declared.Scan.{Scan}
 use Rattle.bytes_at.specs.ByteAt.{byteAt}
-use Rattle.scanner.specs.Scans.{Found, Scans, headText, containerTold, headTold}
+use Rattle.scanner.specs.Scans.{scanAnswer, Found, Scans, headText, containerTold, headTold}
 use Rattle.bytes_at.proofs.BytesAt.{byte-there, expect-yes, expect-no}
 use Rattle.scanner.proofs.Numbers.{unfit-of}
 use Rattle.reader.specs.declared.cursor.Cursor.{Cursor}
-use Rattle.reader.specs.declared.cursor.Step.{Step}
 use Rattle.reader.specs.Texts.{isArrayTag, containerTag}
 use Rattle.reader.specs.Nodes.{nodeOf, NodeOpened}
-use Rattle.reader.specs.Steps.{Points, Takes, TakesIn, Fit, KeptBelow, GoodValue, GoodPairs, Meets, innerAt, bodyAt, pairsAt, refusalOf}
+use Rattle.reader.specs.Steps.{Points, Takes, TakesIn, Fit, KeptBelow, GoodValue, GoodPairs, innerAt, bodyAt, pairsAt}
 use Rattle.reader.proofs.Tagged.{passes}
 use Rattle.reader.proofs.Bodies.{pairsOf, body-head, head-array, head-node}
 use Rattle.reader.proofs.HeadTexts.{head-written}
 use Rattle.reader.proofs.Stored.{node-around, run-kept, run-word, points-keep, points-kept, points-step}
-use Rattle.reader.proofs.Leaves.{refused-is, meets-bad}
+use Rattle.reader.proofs.Leaves.{refused-by}
 
 -- the cursor at a container's first pair
 abbrev pub within : Cursor → (next : ℕ) → Cursor
@@ -62,9 +61,9 @@ module _ (s : List ℕ) (capacity : ℕ) (c : Cursor) (b : ℕ) (is : containerT
   unfolding bodyAt
   opened = body-head (setting capacity s) inner (c .at) (c .ordinal) (c .node) b (drop (c .at + 1) s) is
 
-  pub head-not : (t t′ : List ℕ) (scan : Scan) (code : ℕ) (r : Step) → Scans (headText (isArrayTag b)) (headTold (c .at + 1)) s (c .at + 1) scan
-      → scan ≡ Scan.Not code → r ≡ refusalOf scan (c .at) → Meets s t t′ capacity c given r
-  head-not t t′ scan code r h e q = meets-bad s t t′ capacity c given r code (c .at) (refused-is scan code (c .at) r q e) (opened ∙ rw (unfit-of h e (c .at)))
+  pub head-not : (scan : Scan) (code n : ℕ) → Scans (headText (isArrayTag b)) (headTold (c .at + 1)) s (c .at + 1) scan → scan ≡ Scan.Not code
+      → n ≡ codeOf (scanAnswer 0 scan) → given ≡ refused n (c .at)
+  head-not scan code n h e q = refused-by scan code n (c .at) given e q (opened ∙ rw (unfit-of h e (c .at)))
 
   module _ (x : Text) (f : Found (headText (isArrayTag b)) (headTold (c .at + 1)) s (c .at + 1) x) where
     abbrev container : Container

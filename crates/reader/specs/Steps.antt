@@ -13,7 +13,6 @@ use Rattle.format.specs.Keys.{hasKey}
 use Rattle.format.specs.Answer.{Answer, ok, refused}
 use Rattle.format.specs.Read.{setting, Inner, readKey, readPairs, readBody, readValue, read}
 use Rattle.format.specs.Table.{words, width, wordAt, ordinalWord, endWord, flat, keyNode, table, tableIn, tableOf}
-use Rattle.scanner.specs.declared.Scan.{Scan}
 use Rattle.reader.specs.declared.cursor.Cursor.{Cursor}
 use Rattle.reader.specs.declared.cursor.Step.{Step}
 use Rattle.reader.specs.declared.cursor.Gate.{Gate}
@@ -175,11 +174,6 @@ pub record IsOpen (s : List ℕ) (capacity : ℕ) (c : Cursor) (tag : ℕ) : Typ
 
 abbrev pub GateAt : (s : List ℕ) (capacity : ℕ) (c : Cursor) → Gate → Type 0
 GateAt s capacity c r = GoodOr (IsOpen s capacity c) (valueAt s capacity c) (gateAnswer (c .at) r)
-
--- the refusal that a text asks for
-unfoldable pub refusalOf : Scan → (at : ℕ) → Step
-refusalOf (Scan.Is x) at = Step.Refused 2 at
-refusalOf (Scan.Not code) at = Step.Refused code at
 
 -- ---- a whole plan
 

@@ -12,17 +12,16 @@ enum-known-scan c = search needs
 enum-told : tie.Need-enum-told
 enum-told c = search needs
 
-refused-requires : tie.Need-refused-requires
-refused-requires c κs = search needs
+code-of-requires : tie.Need-code-of-requires
+code-of-requires c κs = search needs
 
 returns : tie.Need-returns
 returns c =
     let failed = c .before in
     let start = failed .before .before .before .before in
-    let table = start .args .table .now in
     let is-scalar = start .pre .1 .0 .2 in
     let told = scalar-behind is-scalar (start .pre .1 .1 .scans) in
-    λ inner. leaves.scalar-not _ _ _ _ is-scalar inner table table _ _ _ told (failed .enum-told .given .1) (c .refused .ensures)
+    λ inner. leaves.scalar-not _ _ _ _ is-scalar inner _ _ _ told (failed .enum-told .given .1) (c .code-of .ensures)
 
 has-ordinal-requires : tie.Need-has-ordinal-requires
 has-ordinal-requires c κs = search needs
@@ -48,4 +47,4 @@ returns-2 c =
 pub put-scalar-spec : {M : Type 1} → statement M
 put-scalar-spec =
     tie.close
-    (tie.spec enum-known-scan enum-told refused-requires returns has-ordinal-requires add-node-requires same-length returns-2)
+    (tie.spec enum-known-scan enum-told code-of-requires returns has-ordinal-requires add-node-requires same-length returns-2)

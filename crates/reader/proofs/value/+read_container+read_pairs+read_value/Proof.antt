@@ -30,7 +30,7 @@ use Rattle.reader.proofs.value.+read_container+read_pairs+read_value.Lt
 use Rattle.reader.proofs.cursor.again.Reads as again-reads
 use Rattle.reader.proofs.cursor.anew.Reads as anew-reads
 use Rattle.reader.proofs.cursor.check_tag.Reads as check-tag-reads
-use Rattle.reader.proofs.cursor.refused.Reads as refused-reads
+use Rattle.reader.proofs.cursor.code_of.Reads as code-of-reads
 use Rattle.reader.proofs.head.head.Reads as head-reads
 use Rattle.reader.proofs.key.read_key.Reads as read-key-reads
 use Rattle.reader.proofs.leaf.read_common.Reads as read-common-reads
@@ -77,8 +77,8 @@ abbrev container-calls : ℕ → container-lts.Claims
 container-calls t = (
   head-reads.Asked,
   head-reads.Learnt,
-  refused-reads.Asked,
-  refused-reads.Learnt,
+  code-of-reads.Asked,
+  code-of-reads.Learnt,
   open-node-reads.Asked,
   open-node-reads.Learnt,
   pairs-below t,
@@ -100,9 +100,8 @@ container-returns : (t : ℕ) → Container t container-lts.Need-returns
 container-returns t c =
     let failed = c .before in
     let headed = failed .before .before in
-    let start = headed .before .before .before .before in
-    let table = start .args .table .now in (
-      containers.head-not _ _ _ _ (start .pre .1 .1 .3) table table _ _ _ (headed .head .ensures) (failed .enum-told .given .1) (c .refused .ensures),
+    let start = headed .before .before .before .before in (
+      containers.head-not _ _ _ _ (start .pre .1 .1 .3) _ _ _ (headed .head .ensures) (failed .enum-told .given .1) (c .code-of .ensures),
       grows-none _,
     )
 
@@ -168,8 +167,8 @@ container-put-end-requires t c κs =
     let given = start .pre .1 .1 in
     omega arith
 
-container-add-t26 : (t : ℕ) → Container t container-lts.Need-add-t26
-container-add-t26 t c =
+container-add-t27 : (t : ℕ) → Container t container-lts.Need-add-t27
+container-add-t27 t c =
     let closed = c .before .before .before .before in
     let compared = closed .before in
     let called = compared .before .before .before .before .before .before .before .before in
@@ -428,7 +427,7 @@ pub +read-container+read-pairs+read-value-spec : {M : Type 1} → statement M
     (λ c. search needs)
     (container-returns-3 t)
     (container-put-end-requires t)
-    (container-add-t26 t)
+    (container-add-t27 t)
     (λ c. search needs)
     (λ c. search needs)
     (container-returns-4 t))
