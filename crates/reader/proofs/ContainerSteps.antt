@@ -9,28 +9,29 @@ use lib.Dec.{eqb, lit<}
 use lib.ListN.{length, getD, drop}
 use lib.Seq.{sets, getD-set-same, getD-set-other, length-sets}
 use Rattle.format.specs.Bytes.{byte, bytes}
+use Rattle.format.specs.Kind.{Kind, hasOrdinal}
 use Rattle.format.specs.Tree as tree
-use Rattle.format.specs.Tree.{branch, nodesIn}
+use Rattle.format.specs.Tree.{branch, nodesIn, one}
 use Rattle.format.specs.Syntax.{array, object, Spelling, Container, Value, Values}
-use Rattle.format.specs.Answer.{Answer, ok, refused, _>>=_}
+use Rattle.format.specs.Answer.{Answer, ok, refused, _>>=_, codeOf}
 use Rattle.format.specs.Read.{expect, isArray, readPairs, setting, Inner}
-use Rattle.format.specs.Table.{Node, words, width, endWord, flat, branchNode, pairsOffset, table, tableIn}
+use Rattle.format.specs.Table.{Node, words, width, endWord, flat, branchNode, pairsOffset, taken, table, tableIn}
 use Rattle.format.proofs.Inversion.{pairs-count}
 use Rattle.scanner.specs.declared.Text.{Text}
 use Rattle.scanner.specs.declared.Scan.{Scan}
 use Rattle.bytes_at.specs.ByteAt.{byteAt}
-use Rattle.scanner.specs.Scans.{Found, Scans, headText, containerTold, headTold}
+use Rattle.scanner.specs.Scans.{scanAnswer, Found, Scans, headText, containerTold, headTold}
 use Rattle.bytes_at.proofs.BytesAt.{byte-there, expect-yes, expect-no}
 use Rattle.scanner.proofs.Numbers.{unfit-of}
 use Rattle.reader.specs.declared.cursor.Cursor.{Cursor}
-use Rattle.reader.specs.declared.cursor.Step.{Step}
 use Rattle.reader.specs.Texts.{isArrayTag, containerTag}
 use Rattle.reader.specs.Nodes.{nodeOf, NodeOpened}
-use Rattle.reader.specs.Steps.{Points, Takes, TakesIn, Fit, KeptBelow, GoodValue, GoodPairs, Meets, innerAt, bodyAt, pairsAt, refusalOf}
+use Rattle.reader.specs.Steps.{Points, Takes, TakesIn, Fit, KeptBelow, GoodValue, GoodPairs, innerAt, bodyAt, pairsAt}
+use Rattle.reader.proofs.Tagged.{passes}
 use Rattle.reader.proofs.Bodies.{pairsOf, body-head, head-array, head-node}
 use Rattle.reader.proofs.HeadTexts.{head-written}
 use Rattle.reader.proofs.Stored.{node-around, run-kept, run-word, points-keep, points-kept, points-step}
-use Rattle.reader.proofs.Leaves.{refused-is, meets-bad}
+use Rattle.reader.proofs.Leaves.{refused-by}
 
 -- the cursor at a container's first pair
 abbrev pub within : Cursor → (next : ℕ) → Cursor
@@ -40,6 +41,14 @@ pub first-fit : (s t t₁ : List ℕ) (capacity : ℕ) (c inside : Cursor) (next
     → c .node < capacity → length t₁ ≡ length t → Fit s t₁ capacity inside
 first-fit s t t₁ capacity c inside next e h f room l =
     subst (Fit s t₁ capacity) (sym e) (record { inside = h; table = omega arith; node = omega arith; ordinal = omega arith })
+
+-- a container takes an ordinal
+numbered : (b : ℕ) → containerTag b → hasOrdinal b ≡ true
+numbered b is = passes hasOrdinal (Kind.array ∷ Kind.object ∷ []) b tt is
+
+pub first-pair : (t t₁ : List ℕ) (c inside : Cursor) (b : ℕ) (x : Text) → containerTag b → NodeOpened t t₁ c b x inside → inside ≡ within c (x .next)
+first-pair t t₁ c inside b x is p =
+    p .cursor ∙ ap (λ (own : Bool). record { at = x .next; node = c .node + 1; ordinal = c .ordinal + one own; levels = c .levels - 1 }) (numbered b is)
 
 module _ (s : List ℕ) (capacity : ℕ) (c : Cursor) (b : ℕ) (is : containerTag b) where
   abbrev inner : Inner
@@ -52,9 +61,9 @@ module _ (s : List ℕ) (capacity : ℕ) (c : Cursor) (b : ℕ) (is : containerT
   unfolding bodyAt
   opened = body-head (setting capacity s) inner (c .at) (c .ordinal) (c .node) b (drop (c .at + 1) s) is
 
-  pub head-not : (t t′ : List ℕ) (scan : Scan) (code : ℕ) (r : Step) → Scans (headText (isArrayTag b)) (headTold (c .at + 1)) s (c .at + 1) scan
-      → scan ≡ Scan.Not code → r ≡ refusalOf scan (c .at) → Meets s t t′ capacity c given r
-  head-not t t′ scan code r h e q = meets-bad s t t′ capacity c given r code (c .at) (refused-is scan code (c .at) r q e) (opened ∙ rw (unfit-of h e (c .at)))
+  pub head-not : (scan : Scan) (code n : ℕ) → Scans (headText (isArrayTag b)) (headTold (c .at + 1)) s (c .at + 1) scan → scan ≡ Scan.Not code
+      → n ≡ codeOf (scanAnswer 0 scan) → given ≡ refused n (c .at)
+  head-not scan code n h e q = refused-by scan code n (c .at) given e q (opened ∙ rw (unfit-of h e (c .at)))
 
   module _ (x : Text) (f : Found (headText (isArrayTag b)) (headTold (c .at + 1)) s (c .at + 1) x) where
     abbrev container : Container
@@ -105,21 +114,21 @@ module _ (s : List ℕ) (capacity : ℕ) (c : Cursor) (b : ℕ) (is : containerT
         (first : NodeOpened t t₁ c b x inside)
         (read : GoodPairs s t₁ t₂ capacity inside (pairsAt s capacity b (x .link) inside) last) where
       g : GoodPairs s t₁ t₂ capacity (within c (x .next)) pairs last
-      g = subst (λ (i : Cursor). GoodPairs s t₁ t₂ capacity i (pairsAt s capacity b (x .link) i) last) (first .cursor) read
+      g = subst (λ (i : Cursor). GoodPairs s t₁ t₂ capacity i (pairsAt s capacity b (x .link) i) last) (first-pair t t₁ c inside b x is first) read
 
       pub brace-missing : eqb (byteAt s (last .at)) (byte "}") ≡ false → given ≡ refused 2 (c .at)
       brace-missing e = opened-pairs ∙ ap (λ (o : Answer (Values × List ℕ)). o >>= shut) (g .is) ∙ rw (expect-no (c .at) s (last .at) (byte "}") [] e)
 
       module _ (e : eqb (byteAt s (last .at)) (byte "}") ≡ true) (l₂ : length t₂ ≡ length t₁)
           (e₃ : t₃ ≡ sets t₂ (c .node * width + endWord) (last .node ∷ [])) where
-        e₁ : t₁ ≡ sets t (c .node * width) (words (nodeOf b (c .ordinal + 1) 0 x))
-        e₁ = first .table
+        e₁ : t₁ ≡ sets t (c .node * width) (words (nodeOf b (c .ordinal + 1) (c .node + 1) x))
+        e₁ = first .table ∙ ap (λ (own : Bool). sets t (c .node * width) (words (nodeOf b (taken own (c .ordinal + 1)) (c .node + 1) x))) (numbered b is)
 
         long : c .node * width + width ≤ length t
         long = omega arith
 
         l₁ : length t₁ ≡ length t
-        l₁ = ap length e₁ ∙ length-sets t (c .node * width) (words (nodeOf b (c .ordinal + 1) 0 x))
+        l₁ = ap length e₁ ∙ length-sets t (c .node * width) (words (nodeOf b (c .ordinal + 1) (c .node + 1) x))
 
         abbrev front : List ℕ
         front = b ∷ (c .ordinal + 1) ∷ x .content ∷ x .size ∷ x .link ∷ []
@@ -127,7 +136,7 @@ module _ (s : List ℕ) (capacity : ℕ) (c : Cursor) (b : ℕ) (is : containerT
         keeps : KeptBelow t t₃ (c .node)
         keeps i l =
             ap (λ (u : List ℕ). getD u i 0) e₃ ∙ getD-set-other t₂ (c .node * width + endWord) i (last .node) 0 (λ q. omega arith)
-            ∙ g .kept i (omega arith) ∙ run-kept t t₁ (words (nodeOf b (c .ordinal + 1) 0 x)) (c .node) e₁ i l
+            ∙ g .kept i (omega arith) ∙ run-kept t t₁ (words (nodeOf b (c .ordinal + 1) (c .node + 1) x)) (c .node) e₁ i l
 
         all : tree.count (g .pairs) ≡ x .link
         unfolding pairsAt
@@ -180,14 +189,14 @@ module _ (s : List ℕ) (capacity : ℕ) (c : Cursor) (b : ℕ) (is : containerT
         writes : (to : ℕ → ℕ) → Points to t (c .node) (c .ordinal) → Takes to (c .node) (suc (c .ordinal)) value
             → (t₃ ≡ sets t (c .node * width) (flat (table to (c .at) (c .node) (suc (c .ordinal)) value))) × Points to t₃ (last .node) (last .ordinal)
         writes to p q =
-            let ws : List ℕ = words (nodeOf b (c .ordinal + 1) 0 x) in
+            let ws : List ℕ = words (nodeOf b (c .ordinal + 1) (c .node + 1) x) in
             let p₁ : Points to t₁ (c .node + 1) (c .ordinal + 1) =
             points-step to t₁ (c .node) (c .ordinal) (points-kept to t t₁ (c .node) (c .ordinal) p (run-kept t t₁ ws (c .node) e₁))
             (run-word t t₁ ws (c .node) 1 e₁ (lit< tt) long) (q .0) in
             let q₁ : TakesIn to (c .node + 1) (suc (c .ordinal + 1)) (g .pairs) =
             subst₂ (λ (i n : ℕ). TakesIn to i n (g .pairs)) (sym (add-one (c .node))) (ap suc (sym (add-one (c .ordinal)))) (q .1) in
             let w = g .wrote .of to p₁ q₁ in (
-              node-around t t₁ t₂ t₃ front (flat (below to)) (c .node * width) 0 (last .node) refl e₁
+              node-around t t₁ t₂ t₃ front (flat (below to)) (c .node * width) (c .node + 1) (last .node) refl e₁
                   (w .0 ∙ ap (λ (k : ℕ). sets t₁ k (flat (below to))) (row-behind (c .node))) e₃
                   ∙ ap (sets t (c .node * width)) (rows to),
               points-keep to t₂ t₃ (last .node) (last .ordinal) (w .1) (λ i l. ap (λ (u : List ℕ). getD u (i * width + 1) 0) e₃

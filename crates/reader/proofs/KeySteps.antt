@@ -15,15 +15,16 @@ use Rattle.format.specs.Bytes.{byte}
 use Rattle.format.specs.Kind.{Kind, tag, isTagOf, keyKinds, mayBeKey}
 use Rattle.format.specs.Syntax.{intKey, stringKey, Key, writeNumber, writeKey}
 use Rattle.format.specs.Keys.{hasKey}
-use Rattle.format.specs.Answer.{Answer, ok, refused, _>>=_, require}
+use Rattle.format.specs.Answer.{Answer, ok, refused, _>>=_, require, codeOf}
 use Rattle.format.specs.Read.{keyText, readKey}
 use Rattle.format.specs.Table.{Node, words, width, wordAt, tagWord, contentWord, sizeWord, keyNode, textOffset}
+use Rattle.format.proofs.Answers.{not-both}
 use Rattle.format.proofs.Texts.{KeyKind, is-int, is-string, keyText-ok}
 use Rattle.format.proofs.Fronts.{number-length, quoted-length}
 use Rattle.format.proofs.Places.{quoted-text}
 use Rattle.scanner.specs.declared.Text.{Text}
 use Rattle.scanner.specs.declared.Scan.{Scan}
-use Rattle.scanner.specs.Scans.{Found, Scans}
+use Rattle.scanner.specs.Scans.{scanAnswer, Found, Scans}
 use Rattle.scanner.proofs.Numbers.{unfit-of}
 use Rattle.reader.specs.declared.cursor.Cursor.{Cursor}
 use Rattle.reader.specs.declared.cursor.Step.{Step}
@@ -34,11 +35,11 @@ use Rattle.reader.specs.Nodes.{nodeOf, NodeAdded}
 use Rattle.key_filter.specs.Filter.{Grows}
 use Rattle.reader.specs.declared.seen.Seen.{Seen}
 use Rattle.reader.specs.KeysSeen.{Known, next, Tested}
-use Rattle.reader.specs.Steps.{Fit, GoodKey, MeetsKey, Remembers, keyAt, refusalOf}
+use Rattle.reader.specs.Steps.{stepAnswer, Fit, GoodKey, Remembers, keyAt}
 use Rattle.reader.proofs.Tagged.{position-is, tag-end, tag-other, tag-is, key-kind-is, key-any, one-of}
 use Rattle.reader.proofs.Bodies.{key-told, key-of-int, key-of-string}
 use Rattle.reader.proofs.Stored.{run-word}
-use Rattle.reader.proofs.Leaves.{refused-is}
+use Rattle.reader.proofs.Leaves.{refused-by}
 
 -- what the scan of a key says of its words
 module _ (s : List ℕ) (at b : ℕ) (may : mayBeKey b ≡ true) (here : at < length s) (tagged : getD s at 0 ≡ b) (x : Text)
@@ -123,7 +124,7 @@ added-words t t′ c c′ b x room p =
 
 pub none-more : (s t t′ m m′ : List ℕ) (first node : ℕ) (seen : Seen) (r : Step) (code at : ℕ) → r ≡ Step.Refused code at → Grows m m′
     → Remembers s t t′ m m′ first node seen r
-none-more s t t′ m m′ first node seen r code at e g = record { grows = g; known = λ c′ q. absurd (let z : _≡_ {A = ℕ} 0 1 = cc in omega arith) }
+none-more s t t′ m m′ first node seen r code at e g = record { grows = g; known = λ c′ q. absurd (not-both (sym (ap stepAnswer e) ∙ q)) }
 
 pub one-more : (s t t′ m m′ : List ℕ) (first capacity : ℕ) (seen : Seen) (c c′ : Cursor) (b : ℕ) (x : Text) (r : Step) (found : Bool) → Fit s t capacity c
     → c .node < capacity → Tested s t m m′ first (c .node) (record { tag = b; content = x .content; size = x .size }) seen found → NodeAdded t t′ c b x false c′
@@ -182,10 +183,9 @@ module _ (s : List ℕ) (capacity container : ℕ) (c : Cursor) (earlier : List 
           position-is s (c .at) inside,
         )
 
-        pub key-not : (t t′ : List ℕ) (scan : Scan) (code : ℕ) (r : Step) → Scans (keyText (kindFor b)) (keyTold (c .at + 1)) s (c .at + 1) scan
-            → scan ≡ Scan.Not code → r ≡ refusalOf scan (c .at) → MeetsKey s t t′ capacity c given r
-        key-not t t′ scan code r k g z =
-            subst (MeetsKey s t t′ capacity c given) (sym (refused-is scan code (c .at) r z g)) (opened ∙ rw (unfit-of k g (c .at)))
+        pub key-not : (scan : Scan) (code n : ℕ) → Scans (keyText (kindFor b)) (keyTold (c .at + 1)) s (c .at + 1) scan → scan ≡ Scan.Not code
+            → n ≡ codeOf (scanAnswer 0 scan) → given ≡ refused n (c .at)
+        key-not scan code n k g z = refused-by scan code n (c .at) given g z (opened ∙ rw (unfit-of k g (c .at)))
 
         module _ (x : Text) (f : Found (keyText (kindFor b)) (keyTold (c .at + 1)) s (c .at + 1) x) where
           pub key-twice : hasKey (f .what) earlier ≡ true → given ≡ refused 9 (c .at)

@@ -9,23 +9,23 @@ use lib.Dec.{T, ltb, leb, lit<}
 use lib.ListN.{length, getD, drop}
 use lib.Seq.{sets}
 use borrow.Author.Tests.{lt-ltb, le-ltb, le-leb, lt-leb}
-use Rattle.format.specs.Kind.{kinds, tag, isTagOf, hasOrdinal}
+use Rattle.format.specs.Kind.{kinds, scalarKinds, tag, isTagOf, hasOrdinal}
 use Rattle.format.specs.Tree.{leaf, ref, nodes, ordinals, one}
 use Rattle.format.specs.Syntax.{Reference, Value, own}
 use Rattle.format.specs.Limits.{Seen}
-use Rattle.format.specs.Answer.{Answer, ok, refused, _>>=_, require}
+use Rattle.format.specs.Answer.{Answer, ok, refused, _>>=_, require, codeOf}
 use Rattle.format.specs.Read.{setting, Inner, readBody, readValue}
 use Rattle.format.specs.Table.{Node, words, width, flat, refNode, taken, table}
 use Rattle.scanner.specs.declared.Text.{Text}
 use Rattle.scanner.specs.declared.Scan.{Scan}
-use Rattle.scanner.specs.Scans.{Found, Scans, namedText, valueTold, scalarText, scalarTold}
+use Rattle.scanner.specs.Scans.{scanAnswer, Found, Scans, namedText, valueTold, scalarText, scalarTold}
 use Rattle.scanner.proofs.Numbers.{unfit-of}
 use Rattle.reader.specs.declared.cursor.Cursor.{Cursor}
 use Rattle.reader.specs.declared.cursor.Step.{Step}
 use Rattle.reader.specs.Texts.{kindFor, scalarTag, referenceTag}
 use Rattle.reader.specs.Nodes.{nodeOf, NodeAdded, CarrierIn}
-use Rattle.reader.specs.Steps.{Points, Takes, Fit, KeptBelow, GoodValue, Meets, IsOpen, valueAt, bodyAt, innerAt, refusalOf}
-use Rattle.reader.proofs.Tagged.{position-is, tag-end, tag-other, tag-is}
+use Rattle.reader.specs.Steps.{Points, Takes, Fit, KeptBelow, GoodValue, Meets, IsOpen, valueAt, bodyAt, innerAt}
+use Rattle.reader.proofs.Tagged.{position-is, tag-end, tag-other, tag-is, passes}
 use Rattle.reader.proofs.Bodies.{body-scalar, scalar-node, refFor, resolved, body-reference, ref-tag}
 use Rattle.reader.proofs.Stored.{run-kept, run-word, points-kept, points-add, link-is}
 
@@ -135,9 +135,10 @@ module _ (s t t′ : List ℕ) (capacity : ℕ) (c c′ : Cursor) (b : ℕ) (x :
 
 -- ---- scalars
 
-pub refused-is : (scan : Scan) (code at : ℕ) (r : Step) → r ≡ refusalOf scan at → scan ≡ Scan.Not code → r ≡ Step.Refused code at
-unfolding refusalOf
-refused-is scan code at r e q = e ∙ ap (λ (x : Scan). refusalOf x at) q
+-- what is refused is refused by the number that the code takes from the scan
+pub refused-by : {A : Type 0} (scan : Scan) (code n at : ℕ) (o : Answer A) → scan ≡ Scan.Not code → n ≡ codeOf (scanAnswer 0 scan) → o ≡ refused code at
+    → o ≡ refused n at
+refused-by scan code n at o e q h = h ∙ ap (λ (k : ℕ). refused k at) (sym (q ∙ ap (λ (x : Scan). codeOf (scanAnswer 0 x)) e))
 
 pub meets-bad : (s t t′ : List ℕ) (capacity : ℕ) (c : Cursor) (o : Answer (Value × List ℕ)) (r : Step) (code at : ℕ) → r ≡ Step.Refused code at
     → o ≡ refused code at → Meets s t t′ capacity c o r
@@ -166,17 +167,16 @@ module _ (s : List ℕ) (capacity : ℕ) (c : Cursor) (b : ℕ) (is : scalarTag 
   unfolding bodyAt
   opened = body-scalar (setting capacity s) inner b (c .at) (c .ordinal) (c .node) (drop (c .at + 1) s) is
 
-  pub scalar-not : (t t′ : List ℕ) (scan : Scan) (code : ℕ) (r : Step) → Scans (scalarText (kindFor b)) (scalarTold (c .at + 1)) s (c .at + 1) scan
-      → scan ≡ Scan.Not code → r ≡ refusalOf scan (c .at)
-      → Meets s t t′ capacity c (bodyAt s capacity inner b c) r
-  scalar-not t t′ scan code r h e q =
-      meets-bad s t t′ capacity c (bodyAt s capacity inner b c) r code (c .at) (refused-is scan code (c .at) r q e) (opened ∙ rw (unfit-of h e (c .at)))
+  pub scalar-not : (scan : Scan) (code n : ℕ) → Scans (scalarText (kindFor b)) (scalarTold (c .at + 1)) s (c .at + 1) scan
+      → scan ≡ Scan.Not code → n ≡ codeOf (scanAnswer 0 scan) → bodyAt s capacity inner b c ≡ refused n (c .at)
+  scalar-not scan code n h e q = refused-by scan code n (c .at) (bodyAt s capacity inner b c) e q (opened ∙ rw (unfit-of h e (c .at)))
 
-  pub scalar-good : (t t′ : List ℕ) (x : Text) (c′ : Cursor) → Fit s t capacity c → c .node < capacity
-      → Found (scalarText (kindFor b)) (scalarTold (c .at + 1)) s (c .at + 1) x → NodeAdded t t′ c b x true c′
+  pub scalar-good : (t t′ : List ℕ) (x : Text) (c′ : Cursor) (takes : Bool) → Fit s t capacity c → c .node < capacity
+      → Found (scalarText (kindFor b)) (scalarTold (c .at + 1)) s (c .at + 1) x → takes ≡ hasOrdinal b → NodeAdded t t′ c b x takes c′
       → GoodValue s t t′ capacity c (bodyAt s capacity inner b c) c′
-  scalar-good t t′ x c′ fit room f p =
-      leaf-good s t t′ capacity c c′ b x true fit room p (bodyAt s capacity inner b c) (leaf (f .what)) (opened ∙ rw (f .is (c .at))) (omega (arith, f .on))
+  scalar-good t t′ x c′ takes fit room f e p =
+      let q : NodeAdded t t′ c b x true c′ = subst (λ (own : Bool). NodeAdded t t′ c b x own c′) (e ∙ passes hasOrdinal scalarKinds b tt is) p in
+      leaf-good s t t′ capacity c c′ b x true fit room q (bodyAt s capacity inner b c) (leaf (f .what)) (opened ∙ rw (f .is (c .at))) (omega (arith, f .on))
       (f .inside) refl refl
       (λ to q. ap (λ (n : Node). n ∷ []) (scalar-node b (c .at) (c .at) (c .node) (suc (c .ordinal)) (x .next) (drop (c .at + 1) s) (
         f .what,
@@ -192,11 +192,9 @@ module _ (s : List ℕ) (capacity : ℕ) (c : Cursor) (b : ℕ) (is : referenceT
   unfolding bodyAt
   named-at = body-reference (setting capacity s) inner b (c .at) (c .ordinal) (c .node) (drop (c .at + 1) s) is
 
-  pub reference-not : (t t′ : List ℕ) (scan : Scan) (code : ℕ) (r : Step) → Scans namedText valueTold s (c .at + 1) scan → scan ≡ Scan.Not code
-      → r ≡ refusalOf scan (c .at)
-      → Meets s t t′ capacity c (bodyAt s capacity inner b c) r
-  reference-not t t′ scan code r h e q =
-      meets-bad s t t′ capacity c (bodyAt s capacity inner b c) r code (c .at) (refused-is scan code (c .at) r q e) (named-at ∙ rw (unfit-of h e (c .at)))
+  pub reference-not : (scan : Scan) (code n : ℕ) → Scans namedText valueTold s (c .at + 1) scan → scan ≡ Scan.Not code → n ≡ codeOf (scanAnswer 0 scan)
+      → bodyAt s capacity inner b c ≡ refused n (c .at)
+  reference-not scan code n h e q = refused-by scan code n (c .at) (bodyAt s capacity inner b c) e q (named-at ∙ rw (unfit-of h e (c .at)))
 
   module _ (x : Text) (f : Found namedText valueTold s (c .at + 1) x) where
     value-is : f .what .1 ≡ x .content

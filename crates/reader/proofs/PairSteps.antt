@@ -29,7 +29,7 @@ use Rattle.keys.specs.KeyWords.{keyWordsAt, keyWordsIn, Held}
 use Rattle.reader.specs.Texts.{isArrayTag}
 use Rattle.reader.specs.KeysSeen.{Chain, none, pair, Walk, Known, next}
 use Rattle.reader.specs.Steps.{Points, Takes, TakesIn, Fit, KeptBelow, WroteIn, GoodValue, GoodPairs, GoodKey, MeetsPairs, Earlier, Remembers, innerAt}
-use Rattle.reader.specs.Steps.{valueAt, pairsAt, keyAt}
+use Rattle.reader.specs.Steps.{stepAnswer, valueAt, pairsAt, keyAt}
 use Rattle.key_filter.proofs.Marking.{grows-none, grows-on}
 use Rattle.reader.proofs.KeyLaws.{chain-le, known-grows}
 use Rattle.reader.proofs.Snoc.{snoc, onto, onto-none, onto-done, onto-refused, onto-snoc, nodes-snoc, ordinals-snoc, key-adds, write-adds, length-snoc}
@@ -239,7 +239,7 @@ module _ {s t₀ t m₀ m : List ℕ} {capacity container count : ℕ} {c₀ c :
               known = subst (λ (z : Seen). Known z m₂ (c₀ .node) (r .keys .keys ++ (k .key ∷ [])))
                   (sym (e ∙ ap (next seen) (of-key ∙ key-there t₁ (c .node) (omega (arith, k .node, k .fits, r .fit, l₁)))))
                   (known-grows (next seen (keyWordsAt t₁ (c .node))) m₁ m₂ (c₀ .node) (r .keys .keys ++ (k .key ∷ [])) b
-                  (a .known mid done (k .key) (r .keys .keys) (k .held) (r .keys .chain) (r .keys .known)));
+                  (a .known mid (ap stepAnswer done) (k .key) (r .keys .keys) (k .held) (r .keys .chain) (r .keys .known)));
             }
 
         writes : (to : ℕ → ℕ) → Points to t₀ (c₀ .node) (c₀ .ordinal) → TakesIn to (c₀ .node) (suc (c₀ .ordinal)) (snoc (r .pairs) (k .key) (g .value))

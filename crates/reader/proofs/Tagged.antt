@@ -6,14 +6,15 @@ use mathlib.Core.Path.{_≡_, refl, sym, ap, _∙_}
 use mathlib.Core.Bool.{Bool, true, false, true≢false}
 use mathlib.Core.List.{List, [], _∷_}
 use mathlib.Core.Logic.{_⊎_, inl, inr, ⊎-elim}
-use lib.Dec.{eqb}
+use lib.Dec.{T, eqb}
 use lib.ListN.{length, getD, drop, length-drop, drop-of-length-le}
 use lib.Seq.{drop-cons}
 use borrow.Author.Tests.{eq-eqb, ne-eqb, eqb-true, eqb-false}
-use Rattle.decimal.proofs.Decide.{Test, passed, failed, test}
+use Rattle.decimal.proofs.Decide.{Test, passed, failed, test, T-true, and-left, and-right}
 use Rattle.format.specs.Kind.{Kind, kinds, tag, isTagOf, keyKinds, mayBeKey}
 use Rattle.format.specs.Answer.{ok, refused, _>>=_}
 use Rattle.format.specs.Read.{kindOf, tagOf}
+use Rattle.format.proofs.Tags.{all}
 use Rattle.reader.specs.Texts.{among, kindFor, isArrayTag, OneOf, scalarTag, containerTag, referenceTag}
 
 -- the position of what is left
@@ -52,6 +53,12 @@ one-of (k ∷ ks) b e = go (test (eqb b (tag k))) (λ d. one-of ks b d)
     go : Test (eqb b (tag k)) → (isTagOf ks b ≡ true → OneOf ks b) → OneOf (k ∷ ks) b
     go (passed t) r = inl (eqb-true b (tag k) t)
     go (failed t) r = inr (r (rw t at e))
+
+-- what every tag of them is
+pub passes : (p : ℕ → Bool) (ks : List Kind) (b : ℕ) → T (all ks p) → OneOf ks b → p b ≡ true
+passes p [] b w o = absurd o
+passes p (k ∷ ks) b w o =
+    ⊎-elim (λ e. ap p e ∙ T-true (p (tag k)) (and-left (p (tag k)) (all ks p) w)) (passes p ks b (and-right (p (tag k)) (all ks p) w)) o
 
 not-one : (ks : List Kind) (b : ℕ) → isTagOf ks b ≡ false → OneOf ks b → ⊥
 not-one (k ∷ ks) b e o = go (test (eqb b (tag k))) (λ d q. not-one ks b d q)

@@ -13,7 +13,6 @@ use Rattle.format.specs.Keys.{hasKey}
 use Rattle.format.specs.Answer.{Answer, ok, refused}
 use Rattle.format.specs.Read.{setting, Inner, readKey, readPairs, readBody, readValue, read}
 use Rattle.format.specs.Table.{words, width, wordAt, ordinalWord, endWord, flat, keyNode, table, tableIn, tableOf}
-use Rattle.scanner.specs.declared.Scan.{Scan}
 use Rattle.reader.specs.declared.cursor.Cursor.{Cursor}
 use Rattle.reader.specs.declared.cursor.Step.{Step}
 use Rattle.reader.specs.declared.cursor.Gate.{Gate}
@@ -63,6 +62,23 @@ pairsAt s capacity container count c =
 unfoldable pub keyAt : (s : List ℕ) (capacity container : ℕ) → (earlier : List Key) → Cursor → Answer (Key × List ℕ)
 keyAt s capacity container earlier c = readKey (setting capacity s) (isArrayTag container) earlier (c .node) (drop (c .at) s)
 
+-- ---- the answers of the steps
+
+-- the paper's number and values for each case of the enum: the cursor behind a step; "A refusal returns its number and a position"
+abbrev pub stepAnswer : Step → Answer Cursor
+stepAnswer (Step.Done c) = ok c
+stepAnswer (Step.Refused code at) = refused code at
+
+-- the same of the checks at a value's tag, which stands at an index that the caller knows
+abbrev pub gateAnswer : (at : ℕ) → Gate → Answer ℕ
+gateAnswer at (Gate.Open tag) = ok tag
+gateAnswer at (Gate.Shut code) = refused code at
+
+-- what a step answers where the definition answers `o`: what is good, or the same refusal
+abbrev pub GoodOr : {A B : Type 0} → (B → Type 0) → (o : Answer A) → Answer B → Type 0
+GoodOr Good o (ok x) = Good x
+GoodOr Good o (refused code at) = o ≡ refused code at
+
 -- ---- what a step leaves
 
 -- a cursor is within the source and the table, and no more ordinals than nodes are taken
@@ -101,8 +117,7 @@ pub record GoodValue (s t t′ : List ℕ) (capacity : ℕ) (c : Cursor) (o : An
 
 -- a refusal says nothing of the table: `read` clears it
 abbrev pub Meets : (s t t′ : List ℕ) (capacity : ℕ) (c : Cursor) → Answer (Value × List ℕ) → Step → Type 0
-Meets s t t′ capacity c o (Step.Done c′) = GoodValue s t t′ capacity c o c′
-Meets s t t′ capacity c o (Step.Refused code at) = o ≡ refused code at
+Meets s t t′ capacity c o r = GoodOr (GoodValue s t t′ capacity c o) o (stepAnswer r)
 
 -- the same of pairs
 pub record GoodPairs (s t t′ : List ℕ) (capacity : ℕ) (c : Cursor) (o : Answer (Values × List ℕ)) (c′ : Cursor) : Type 0 where
@@ -118,8 +133,7 @@ pub record GoodPairs (s t t′ : List ℕ) (capacity : ℕ) (c : Cursor) (o : An
   pub wrote : WroteIn t t′ c c′ pairs
 
 abbrev pub MeetsPairs : (s t t′ : List ℕ) (capacity : ℕ) (c : Cursor) → Answer (Values × List ℕ) → Step → Type 0
-MeetsPairs s t t′ capacity c o (Step.Done c′) = GoodPairs s t t′ capacity c o c′
-MeetsPairs s t t′ capacity c o (Step.Refused code at) = o ≡ refused code at
+MeetsPairs s t t′ capacity c o r = GoodOr (GoodPairs s t t′ capacity c o) o (stepAnswer r)
 
 -- the same of a key
 pub record GoodKey (s t t′ : List ℕ) (capacity : ℕ) (c : Cursor) (o : Answer (Key × List ℕ)) (c′ : Cursor) : Type 0 where
@@ -135,8 +149,7 @@ pub record GoodKey (s t t′ : List ℕ) (capacity : ℕ) (c : Cursor) (o : Answ
   pub held : Held s key (keyWordsAt t′ (c .node))
 
 abbrev pub MeetsKey : (s t t′ : List ℕ) (capacity : ℕ) (c : Cursor) → Answer (Key × List ℕ) → Step → Type 0
-MeetsKey s t t′ capacity c o (Step.Done c′) = GoodKey s t t′ capacity c o c′
-MeetsKey s t t′ capacity c o (Step.Refused code at) = o ≡ refused code at
+MeetsKey s t t′ capacity c o r = GoodOr (GoodKey s t t′ capacity c o) o (stepAnswer r)
 
 -- the keys read before are those that stand in the table
 pub record Earlier (s t m : List ℕ) (first node : ℕ) (seen : Seen) (earlier : List Key) : Type 0 where
@@ -148,7 +161,7 @@ pub record Earlier (s t m : List ℕ) (first node : ℕ) (seen : Seen) (earlier 
 -- what is known of the keys once one more is read
 pub record Remembers (s t t′ m m′ : List ℕ) (first node : ℕ) (seen : Seen) (r : Step) : Type 0 where
   pub grows : Grows m m′
-  pub known : (c′ : Cursor) → r ≡ Step.Done c′ → (k : Key) (ks : List Key) → Held s k (keyWordsAt t′ node) → Chain s t first node ks → Known seen m first ks
+  pub known : (c′ : Cursor) → stepAnswer r ≡ ok c′ → (k : Key) (ks : List Key) → Held s k (keyWordsAt t′ node) → Chain s t first node ks → Known seen m first ks
       → Known (next seen (keyWordsAt t′ node)) m′ first (ks ++ (k ∷ []))
 
 -- the checks at a value's tag
@@ -160,13 +173,7 @@ pub record IsOpen (s : List ℕ) (capacity : ℕ) (c : Cursor) (tag : ℕ) : Typ
   pub free : c .node < capacity
 
 abbrev pub GateAt : (s : List ℕ) (capacity : ℕ) (c : Cursor) → Gate → Type 0
-GateAt s capacity c (Gate.Open tag) = IsOpen s capacity c tag
-GateAt s capacity c (Gate.Shut code) = valueAt s capacity c ≡ refused code (c .at)
-
--- the refusal that a text asks for
-unfoldable pub refusalOf : Scan → (at : ℕ) → Step
-refusalOf (Scan.Is x) at = Step.Refused 2 at
-refusalOf (Scan.Not code) at = Step.Refused code at
+GateAt s capacity c r = GoodOr (IsOpen s capacity c) (valueAt s capacity c) (gateAnswer (c .at) r)
 
 -- ---- a whole plan
 
@@ -179,5 +186,4 @@ pub record GoodWhole (s t t′ : List ℕ) (capacity : ℕ) (c : Cursor) : Type 
   pub table : t′ ≡ sets t 0 (flat (tableOf value))
 
 abbrev pub Whole : (s t t′ : List ℕ) (capacity : ℕ) → Step → Type 0
-Whole s t t′ capacity (Step.Done c) = GoodWhole s t t′ capacity c
-Whole s t t′ capacity (Step.Refused code at) = read capacity s ≡ refused code at
+Whole s t t′ capacity r = GoodOr (GoodWhole s t t′ capacity) (read capacity s) (stepAnswer r)

@@ -1,10 +1,16 @@
 // How far reading is, what a step of it answers, and the checks at a value's tag.
+use format::codes::TABLE_FULL;
+use format::codes::TAG_UNKNOWN;
+use format::codes::TEXT_UNFIT;
+use format::codes::TOO_DEEP;
 use format::kind::Kind;
 use scanner::Scan;
 ghost use mathlib.Core.Path.{_≡_};
 ghost use Prim.Native.Nat.{_≤_};
 ghost use lib.ListN.{length};
-ghost use Rattle.reader.specs.Steps.{refusalOf, GateAt};
+ghost use Rattle.format.specs.Answer.{codeOf};
+ghost use Rattle.scanner.specs.Scans.{scanAnswer};
+ghost use Rattle.reader.specs.Steps.{GateAt};
 
 // The next byte, the next node, the ordinals taken and the levels left.
 pub struct Cursor {
@@ -48,14 +54,13 @@ pub(crate) fn anew(step: Step) -> Step
     }
 }
 
-// The refusal of a text whose tag stands at an index.
-pub(crate) fn refused(scan: Scan, at: usize) -> Step
-    ensures { λ r. ⌜ r ≡ refusalOf scan at ⌝ }
+// The number of a text's refusal; 0 for a text, since no refusal has number 0.
+pub(crate) fn code_of(scan: Scan) -> u8
+    ensures { λ r. ⌜ r ≡ codeOf (scanAnswer 0 scan) ⌝ }
 {
     match scan {
-        Scan::Not(code) => Step::Refused(code, at),
-        // Callers ask only for texts that are none.
-        Scan::Is(_) => Step::Refused(2, at),
+        Scan::Is(_) => 0,
+        Scan::Not(code) => code,
     }
 }
 
@@ -68,18 +73,18 @@ pub(crate) fn check_tag(source: &[u8], capacity: usize, cursor: Cursor) -> Gate
     let node = cursor.node;
     let levels = cursor.levels;
     if source.len() <= at {
-        return Gate::Shut(2);
+        return Gate::Shut(TEXT_UNFIT);
     }
     let tag = source[at];
     let kind = Kind { tag };
     if !kind.is_known() {
-        return Gate::Shut(3);
+        return Gate::Shut(TAG_UNKNOWN);
     }
     if levels == 0 {
-        return Gate::Shut(8);
+        return Gate::Shut(TOO_DEEP);
     }
     if capacity <= node {
-        return Gate::Shut(7);
+        return Gate::Shut(TABLE_FULL);
     }
     Gate::Open(tag)
 }

@@ -1,10 +1,14 @@
 // A key of a container.
 use crate::cursor::Cursor;
 use crate::cursor::Step;
-use crate::cursor::refused;
+use crate::cursor::code_of;
 use crate::seen::Seen;
 use crate::seen::key_seen;
 use crate::table::add_node;
+use format::codes::KEY_NOT_ALLOWED;
+use format::codes::KEY_REPEATED;
+use format::codes::TABLE_FULL;
+use format::codes::TEXT_UNFIT;
 use format::kind::Kind;
 use keys::KeyWords;
 use scanner::Scan;
@@ -53,18 +57,18 @@ pub(crate) fn read_key(
     let at = cursor.at;
     let node = cursor.node;
     if source.len() <= at {
-        return Step::Refused(2, at);
+        return Step::Refused(TEXT_UNFIT, at);
     }
     let tag = source[at];
     if !key_allowed(tag, container) {
-        return Step::Refused(4, at);
+        return Step::Refused(KEY_NOT_ALLOWED, at);
     }
     if capacity <= node {
-        return Step::Refused(7, at);
+        return Step::Refused(TABLE_FULL, at);
     }
     let scan = scanner::in_line::key(source, at + 1, tag);
     let Scan::Is(text) = scan else {
-        return refused(scan, at);
+        return Step::Refused(code_of(scan), at);
     };
     let key = KeyWords {
         tag: tag as u64,
@@ -72,7 +76,7 @@ pub(crate) fn read_key(
         size: text.size,
     };
     if key_seen(source, table, filter, first, node, key, seen) {
-        return Step::Refused(9, at);
+        return Step::Refused(KEY_REPEATED, at);
     }
     Step::Done(add_node(table, cursor, tag, text, false))
 }

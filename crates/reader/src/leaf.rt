@@ -1,9 +1,10 @@
 // Values that hold no others: scalars and references.
 use crate::cursor::Cursor;
 use crate::cursor::Step;
-use crate::cursor::refused;
+use crate::cursor::code_of;
 use crate::lookup::node_of;
 use crate::table::add_node;
+use format::codes::NOTHING_NAMED;
 use format::kind::Kind;
 use scanner::Scan;
 use scanner::Text;
@@ -30,9 +31,9 @@ fn put_scalar(
         (bodyAt (now (source .entry)) capacity inner tag cursor) r) ⌝ }
 {
     let Scan::Is(text) = scan else {
-        return refused(scan, cursor.at);
+        return Step::Refused(code_of(scan), cursor.at);
     };
-    Step::Done(add_node(table, cursor, tag, text, true))
+    Step::Done(add_node(table, cursor, tag, text, Kind { tag }.has_ordinal()))
 }
 
 // A scalar: its text, then its node.
@@ -85,14 +86,14 @@ pub(crate) fn read_reference(
     let at = cursor.at;
     let scan = scanner::number::named(source, at + 1);
     let Scan::Is(text) = scan else {
-        return refused(scan, at);
+        return Step::Refused(code_of(scan), at);
     };
     let named = text.content;
     if named == 0 {
-        return Step::Refused(6, at);
+        return Step::Refused(NOTHING_NAMED, at);
     }
     if (cursor.ordinal as u64) < named {
-        return Step::Refused(6, at);
+        return Step::Refused(NOTHING_NAMED, at);
     }
     let target = node_of(table, cursor.node, named);
     let resolved = Text {

@@ -7,6 +7,8 @@
 // The two searches, for equal keys (seen.rt) and for the node of an ordinal (lookup.rt), have narrow contracts that do not say how they search.
 use crate::cursor::Cursor;
 use crate::cursor::Step;
+use format::codes::BYTES_BEHIND;
+use format::codes::SOURCE_TOO_LONG;
 use format::limits::DEPTH_LIMIT;
 use format::limits::SOURCE_LIMIT;
 use format::table::WIDTH;
@@ -45,7 +47,7 @@ fn read_whole(source: &[u8], table: &mut [u64], filter: &mut [u64], capacity: us
     ensures { λ r. ⌜ Whole (now (source .entry)) (now (table .entry)) (now (table .exit)) capacity r ⌝ }
 {
     if SOURCE_LIMIT < source.len() {
-        return Step::Refused(1, 0);
+        return Step::Refused(SOURCE_TOO_LONG, 0);
     }
     let start = Cursor {
         at: 0,
@@ -59,7 +61,7 @@ fn read_whole(source: &[u8], table: &mut [u64], filter: &mut [u64], capacity: us
     };
     let at = end.at;
     if at < source.len() {
-        return Step::Refused(10, at);
+        return Step::Refused(BYTES_BEHIND, at);
     }
     step
 }

@@ -1,5 +1,6 @@
 // The node table: six words to a node.
 use crate::cursor::Cursor;
+use format::kind::Kind;
 use format::table::CONTENT;
 use format::table::END;
 use format::table::LINK;
@@ -37,7 +38,7 @@ pub(crate) fn put_end(table: &mut [u64], node: usize, end: u64)
     table[node * WIDTH + END] = end;
 }
 
-// Writes the node of a key, or of a value that holds none, with the next ordinal if it takes one; the cursor behind it.
+// Writes the node of a key or of a value, with the next ordinal if it takes one, as if it held no others; the cursor behind it.
 pub(crate) fn add_node(
     table: &mut [u64],
     cursor: Cursor,
@@ -64,19 +65,18 @@ pub(crate) fn add_node(
     }
 }
 
-// Writes the node of a container, when its head is read, so that nodes stand in the order of their tags. Its end is 0 until its brace is read.
+// Writes the node of a container, when its head is read, so that nodes stand in the order of their tags. Its end is written once its brace is read.
 // The cursor at its first pair.
 pub(crate) fn open_node(table: &mut [u64], cursor: Cursor, tag: u8, text: Text) -> Cursor
     requires { ⌜ (cursor .node * width + width ≤ length (now table)) × (cursor .ordinal ≤ cursor .node) × (1 ≤ cursor .levels) ⌝ }
     ensures { λ r. ⌜ NodeOpened (now (table .entry)) (now (table .exit)) cursor tag text r ⌝ }
 {
-    let node = cursor.node;
-    let ordinal = cursor.ordinal + 1;
-    put_node(table, node, tag, ordinal as u64, text, 0);
+    let kind = Kind { tag };
+    let inside = add_node(table, cursor, tag, text, kind.has_ordinal());
     Cursor {
-        at: text.next,
-        node: node + 1,
-        ordinal,
+        at: inside.at,
+        node: inside.node,
+        ordinal: inside.ordinal,
         levels: cursor.levels - 1,
     }
 }

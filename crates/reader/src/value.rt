@@ -5,7 +5,7 @@ use crate::cursor::Step;
 use crate::cursor::again;
 use crate::cursor::anew;
 use crate::cursor::check_tag;
-use crate::cursor::refused;
+use crate::cursor::code_of;
 use crate::head::head;
 use crate::key::read_key;
 use crate::leaf::read_common;
@@ -16,6 +16,7 @@ use crate::seen::next;
 use crate::table::open_node;
 use crate::table::put_end;
 use bytes_at::byte_is;
+use format::codes::TEXT_UNFIT;
 use format::kind::Kind;
 use keys::key_at;
 use scanner::Scan;
@@ -110,7 +111,7 @@ fn read_container(
     let at = cursor.at;
     let scan = head(source, at, tag);
     let Scan::Is(text) = scan else {
-        return refused(scan, at);
+        return Step::Refused(code_of(scan), at);
     };
     let inside = open_node(table, cursor, tag, text);
     let step = read_pairs(source, table, filter, capacity, tag, inside, text.link);
@@ -119,7 +120,7 @@ fn read_container(
     };
     let end = last.at;
     if !byte_is(source, end, b'}') {
-        return Step::Refused(2, at);
+        return Step::Refused(TEXT_UNFIT, at);
     }
     put_end(table, cursor.node, last.node as u64);
     Step::Done(Cursor {

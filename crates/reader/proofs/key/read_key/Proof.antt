@@ -14,7 +14,6 @@ use Rattle.scanner.proofs.Numbers.{found-of}
 use Rattle.reader.specs.Texts.{kindFor, isArrayTag, keyTold}
 use Rattle.key_filter.proofs.Marking.{grows-none}
 use Rattle.reader.proofs.Tagged as tagged
-use Rattle.reader.proofs.Leaves.{refused-is}
 use Rattle.reader.proofs.ScalarTexts.{key-behind}
 use Rattle.reader.proofs.KeySteps as steps
 use Rattle.reader.proofs.key.read_key.Statement.{statement}
@@ -95,22 +94,21 @@ enum-known-scan c = search needs
 enum-told : tie.Need-enum-told
 enum-told c = search needs
 
-refused-requires : tie.Need-refused-requires
-refused-requires c κs = search needs
+code-of-requires : tie.Need-code-of-requires
+code-of-requires c κs = search needs
 
 returns-4 : tie.Need-returns-4
 returns-4 c =
     let failed = c .before in
-    let scanned = failed .before .before in
-    let table = start scanned .args .table .now in (
+    let scanned = failed .before .before in (
       λ earlier e.
           steps.key-not _ _ _ _ earlier _ (inside scanned .if1 .left) refl (may scanned) (room scanned .if3 .left)
-          table table _ _ _ (told scanned) (failed .enum-told .given .1) (c .refused .ensures),
-      steps.none-more _ _ _ _ _ _ _ _ _ _ _ (refused-is _ _ _ _ (c .refused .ensures) (failed .enum-told .given .1)) (grows-none _),
+          _ _ _ (told scanned) (failed .enum-told .given .1) (c .code-of .ensures),
+      steps.none-more _ _ _ _ _ _ _ _ _ _ _ refl (grows-none _),
     )
 
-cast-t20 : tie.Need-cast-t20
-cast-t20 c =
+cast-t21 : tie.Need-cast-t21
+cast-t21 c =
     let known = c .before .before .before .before .before .before .before in
     let start = known .before .before .before .before .before in
     omega (arith, known .shared-slice-known2 .given (start .args .cursor .at))
@@ -178,9 +176,9 @@ read-key-spec =
     key-requires
     enum-known-scan
     enum-told
-    refused-requires
+    code-of-requires
     returns-4
-    cast-t20
+    cast-t21
     key-seen-requires
     same-length
     same-length-2

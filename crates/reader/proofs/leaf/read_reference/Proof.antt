@@ -18,17 +18,16 @@ enum-known-scan c = search needs
 enum-told : tie.Need-enum-told
 enum-told c = search needs
 
-refused-requires : tie.Need-refused-requires
-refused-requires c κs = search needs
+code-of-requires : tie.Need-code-of-requires
+code-of-requires c κs = search needs
 
 returns : tie.Need-returns
 returns c =
     let failed = c .before in
     let scanned = failed .before .before in
     let start = scanned .before .before .before in
-    let table = start .args .table .now in
     λ inner.
-    leaves.reference-not _ _ _ _ (start .pre .1 .2) inner table table _ _ _ (scanned .named .ensures .scans) (failed .enum-told .given .1) (c .refused .ensures)
+    leaves.reference-not _ _ _ _ (start .pre .1 .2) inner _ _ _ (scanned .named .ensures .scans) (failed .enum-told .given .1) (c .code-of .ensures)
 
 returns-2 : tie.Need-returns-2
 returns-2 c =
@@ -82,7 +81,7 @@ read-reference-spec =
     named-requires
     enum-known-scan
     enum-told
-    refused-requires
+    code-of-requires
     returns
     returns-2
     returns-3

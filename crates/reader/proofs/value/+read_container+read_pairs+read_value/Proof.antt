@@ -30,7 +30,7 @@ use Rattle.reader.proofs.value.+read_container+read_pairs+read_value.Lt
 use Rattle.reader.proofs.cursor.again.Reads as again-reads
 use Rattle.reader.proofs.cursor.anew.Reads as anew-reads
 use Rattle.reader.proofs.cursor.check_tag.Reads as check-tag-reads
-use Rattle.reader.proofs.cursor.refused.Reads as refused-reads
+use Rattle.reader.proofs.cursor.code_of.Reads as code-of-reads
 use Rattle.reader.proofs.head.head.Reads as head-reads
 use Rattle.reader.proofs.key.read_key.Reads as read-key-reads
 use Rattle.reader.proofs.leaf.read_common.Reads as read-common-reads
@@ -77,8 +77,8 @@ abbrev container-calls : ℕ → container-lts.Claims
 container-calls t = (
   head-reads.Asked,
   head-reads.Learnt,
-  refused-reads.Asked,
-  refused-reads.Learnt,
+  code-of-reads.Asked,
+  code-of-reads.Learnt,
   open-node-reads.Asked,
   open-node-reads.Learnt,
   pairs-below t,
@@ -100,9 +100,8 @@ container-returns : (t : ℕ) → Container t container-lts.Need-returns
 container-returns t c =
     let failed = c .before in
     let headed = failed .before .before in
-    let start = headed .before .before .before .before in
-    let table = start .args .table .now in (
-      containers.head-not _ _ _ _ (start .pre .1 .1 .3) table table _ _ _ (headed .head .ensures) (failed .enum-told .given .1) (c .refused .ensures),
+    let start = headed .before .before .before .before in (
+      containers.head-not _ _ _ _ (start .pre .1 .1 .3) _ _ _ (headed .head .ensures) (failed .enum-told .given .1) (c .code-of .ensures),
       grows-none _,
     )
 
@@ -122,7 +121,7 @@ container-read-pairs-requires t c κs =
     let fit = start .pre .1 .0 in
     let given = start .pre .1 .1 in
     let is = found-of (headed .head .ensures) (found .scan .given .1) in
-    let first = opened .open-node .ensures .cursor in (
+    let first = containers.first-pair _ _ _ _ _ _ (given .3) (opened .open-node .ensures) in (
       omega (arith, ap (λ (i : Cursor). i .at) first, is .on, is .inside),
       containers.first-fit _ _ _ _ _ _ _ first (is .inside) fit (given .1) (opened .open-node .kept .0),
     )
@@ -134,10 +133,11 @@ container-returns-2 t c =
     let found = opened .before .before .before in
     let headed = found .before .before in
     let start = headed .before .before .before .before in
+    let tagged = start .pre .1 .1 .3 in
     let is = found-of (headed .head .ensures) (found .scan .given .1) in
     let refused = subst (MeetsPairs _ _ _ _ _ _) (c .enum-told2 .given .1) (called .read-pairs .ensures .0) in (
       leaves.meets-bad _ _ _ _ _ _ _ _ _ (c .enum-told2 .given .1)
-          (containers.pairs-refused _ _ _ _ (start .pre .1 .1 .3) _ is _ (opened .open-node .ensures .cursor) _ _ refused),
+          (containers.pairs-refused _ _ _ _ tagged _ is _ (containers.first-pair _ _ _ _ _ _ tagged (opened .open-node .ensures)) _ _ refused),
       called .read-pairs .ensures .1,
     )
 
@@ -167,8 +167,8 @@ container-put-end-requires t c κs =
     let given = start .pre .1 .1 in
     omega arith
 
-container-add-t26 : (t : ℕ) → Container t container-lts.Need-add-t26
-container-add-t26 t c =
+container-add-t27 : (t : ℕ) → Container t container-lts.Need-add-t27
+container-add-t27 t c =
     let closed = c .before .before .before .before in
     let compared = closed .before in
     let called = compared .before .before .before .before .before .before .before .before in
@@ -427,7 +427,7 @@ pub +read-container+read-pairs+read-value-spec : {M : Type 1} → statement M
     (λ c. search needs)
     (container-returns-3 t)
     (container-put-end-requires t)
-    (container-add-t26 t)
+    (container-add-t27 t)
     (λ c. search needs)
     (λ c. search needs)
     (container-returns-4 t))
