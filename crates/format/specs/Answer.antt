@@ -21,3 +21,6 @@ require false n p = refused n p
 abbrev pub refusalOf : {A : Type 0} → Answer A → Refusal
 refusalOf (ok a) = record { code = 0; at = 0 }
 refusalOf (refused n p) = record { code = n; at = p }
+
+abbrev pub codeOf : {A : Type 0} → Answer A → ℕ
+codeOf a = refusalOf a .code

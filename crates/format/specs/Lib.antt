@@ -1,6 +1,6 @@
 -- THE DEFINITIONS, in the order in which to read them beside the specification (paper 01). A quotation in a comment is a sentence of it, or of the three
--- demands, which docs/PROOFS.md repeats. Behind these: crates/insertion/specs/Shift, inserting on the meaning; crates/reader/specs/Promise, what `read`
--- promises; crates/editor/specs/Promise, what `canonicalize` and `insert` promise.
+-- demands, which docs/PROOFS.md repeats. Behind these: crates/insertion/specs/Shift, inserting on the meaning, and Ways, where an array stands;
+-- crates/reader/specs/Promise, what `read` promises; crates/editor/specs/Promise, what `canonicalize` and `insert` promise.
 
 -- the grammar: it does not know reading
 pub mod Bytes  -- bytes as numbers, and texts written readably
