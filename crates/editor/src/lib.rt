@@ -24,8 +24,8 @@ ghost use Rattle.rewriting.specs.Edited.{editedAnswer};
 ghost use Rattle.editor.specs.Ends.{roomAnswer, roomOf, Refuses, Settles, Short, Spared, EditFits, Roomed, Finishes};
 
 // What is written of so short a source, key and value is never longer than a plan may be (`edited-most`, crates/rewriting): a reference has four bytes or more
-// and grows by one at the most, and the parts of an insertion are stretches of the source, which placing promises (`Parted`). So five quarters of the source,
-// both texts and a head of nine bytes are at most 65,259.
+// and grows by one at the most, and the parts of an insertion are stretches of the source (`spot-leads`, crates/placing). So five quarters of the source, both
+// texts and a head of nine bytes are at most 65,259.
 const SHORT_SOURCE: usize = 49000;
 
 const SHORT_TEXT: usize = 2000;
