@@ -36,7 +36,10 @@ text-long s o n h k = rw (textOf, le-leb o (length s) h, lt-leb n (length s - o)
 -- ---- words
 
 pub above-no-text : (n : ℕ) → 255 < n → hasText n ≡ false
-above-no-text n l = rw (ne-eqb n (tag Kind.float) (λ e. omega arith), ne-eqb n (tag Kind.string) (λ e. omega arith), ne-eqb n (tag Kind.object) (λ e. omega arith))
+above-no-text n l = rw (no-tag Kind.float (omega arith), no-tag Kind.string (omega arith), no-tag Kind.object (omega arith))
+  where
+    no-tag : (k : Kind) → tag k < n → eqb n (tag k) ≡ false
+    no-tag k h = ne-eqb n (tag k) (λ e. omega (arith, h, e))
 
 module _ (s : List ℕ) (a : KeyWords) (t : List ℕ) (b : KeyWords) where
   pub tags-differ : (a .tag ≡ b .tag → ⊥) → sameWords s a t b ≡ false

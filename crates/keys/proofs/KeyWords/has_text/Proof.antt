@@ -1,4 +1,5 @@
 -- `keys::KeyWords::has_text` meets its contract. Assumes nothing.
+use native.Mathlib.Omega.{arith}
 use mathlib.Core.Path.{sym}
 use Rattle.keys.proofs.SameWords as same
 use borrow.Author.Needs.{needs}
@@ -6,7 +7,7 @@ use Rattle.keys.proofs.KeyWords.has_text.Statement.{statement}
 use Rattle.keys.proofs.KeyWords.has_text.Tie as tie
 
 returns : tie.Need-returns
-returns c = sym (same.above-no-text _ (c .if1 .taken))
+returns c = sym (same.above-no-text (c .before .before .args .self .tag) (omega (arith, c .if1 .taken)))
 
 cast-t4 : tie.Need-cast-t4
 cast-t4 c = search needs
