@@ -4,7 +4,7 @@ use native.Mathlib.Nat.{div-add-mod'}
 use native.Mathlib.Omega.{arith}
 use mathlib.Core.Path.{_≡_, sym, ap, ap₂, _∙_}
 use lib.Arith.{bin-ind}
-use lib.Bits.{bitAnd, bitOr, and-step, and-zero-r, and-shr, or-shr, or-step}
+use lib.Bits.{bitAnd, bitOr, and-step, and-zero-r, or-step}
 
 -- the lowest bit, and those above
 or-low : (a b : ℕ) → bitOr a b % 2 ≡ max (a % 2) (b % 2)

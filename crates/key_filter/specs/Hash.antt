@@ -1,6 +1,6 @@
 -- The hash of a key. Nothing rests on its numbers but that equal keys have one hash.
 use mathlib.Core.List.{List}
-use mathlib.Core.Bool.{Bool, true, false}
+use mathlib.Core.Bool.{true, false}
 use Prim.Native.Nat.{ℕ, zero, suc, _+_, _-_, _*_, _/_, _%_, _^_}
 use lib.Dec.{eqb, leb}
 use lib.Bits.{bitXor}

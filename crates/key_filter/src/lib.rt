@@ -108,7 +108,8 @@ fn text_hash(source: &[u8], holder: usize, offset: usize, size: usize) -> u64
     spread(mixed_text(source, offset, size, start(holder, size)))
 }
 
-// The hash of a key of the container whose first key stands at node `holder`.
+// The hash of a key of the container whose first key stands at node `holder`. By the tag of an integer and not by `Kind::has_text`, as keys has it: to ask the
+// kind here costs each key five instructions, 2.05 % of reading string keys. For an integer and a string the two say the same.
 pub fn hash(source: &[u8], holder: usize, key: KeyWords) -> u64
     ensures { λ r. ⌜ r ≡ hashWords (now (source .entry)) holder key ⌝ }
 {

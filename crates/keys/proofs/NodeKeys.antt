@@ -8,7 +8,6 @@ use lib.ListN.{length, getD}
 use borrow.Author.Tests.{lt-ltb, le-ltb}
 use Rattle.format.specs.Table.{width}
 use Rattle.format.specs.Reading.{capacityOf}
-use Rattle.keys.specs.declared.KeyWords.{KeyWords}
 use Rattle.keys.specs.KeyWords.{keyWordsAt, keyWordsIn}
 
 module _ (t : List ℕ) (i : ℕ) where

@@ -6,7 +6,7 @@ use Prim.Native.Nat.{ℕ, _+_, _-_, _≤_}
 use lib.Dec.{leb, ltb, eqb}
 use lib.ListN.{length, take, drop}
 use Rattle.format.specs.Bytes.{sameBytes}
-use Rattle.format.specs.Kind.{Kind, tag}
+use Rattle.format.specs.Kind.{Kind, tag, hasText}
 use Rattle.format.specs.Syntax.{intKey, stringKey, Key}
 use Rattle.format.specs.Keys.{integer}
 use Rattle.format.specs.Fits.{KeyFits}
@@ -29,9 +29,9 @@ keyWordsIn t i = elim (ltb i (capacityOf t)) [ true ↦ keyWordsAt t i | false �
 -- "Two keys of one container are equal when both are i with equal value or both are s with equal bytes.", by their words
 unfoldable pub sameWords : (s : List ℕ) → KeyWords → (t : List ℕ) → KeyWords → Bool
 sameWords s a t b = eqb (a .tag) (b .tag)
-    && (elim (eqb (a .tag) (tag Kind.int)) [
-      | true ↦ eqb (a .content) (b .content)
-      | false ↦ sameBytes (textOf s (a .content) (a .size)) (textOf t (b .content) (b .size))
+    && (elim (hasText (a .tag)) [
+      | true ↦ sameBytes (textOf s (a .content) (a .size)) (textOf t (b .content) (b .size))
+      | false ↦ eqb (a .content) (b .content)
     ])
 
 -- ---- which key the words say

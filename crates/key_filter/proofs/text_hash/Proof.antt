@@ -1,10 +1,10 @@
 -- `key_filter::text_hash` meets its contract. Assumes nothing.
 use Prim.Native.Nat.{ℕ}
 use native.Mathlib.Omega.{arith}
-use mathlib.Core.Path.{ap, _∙_}
+use mathlib.Core.Path.{_≡_, ap, _∙_}
 use lib.ListN.{take, drop}
 use Rattle.keys.proofs.SameWords.{text-past, text-long}
-use Rattle.key_filter.specs.Hash.{spread, mixedText}
+use Rattle.key_filter.specs.Hash.{spread, mixedText, start}
 use Rattle.key_filter.proofs.Hashing as hashing
 use borrow.Author.Needs.{needs}
 use Rattle.key_filter.proofs.text_hash.Statement.{statement}
@@ -53,9 +53,10 @@ returns-3 c =
     let fits = begin .before in
     let inside = fits .before in
     let text = inside .before .before .args in
+    let begun : begin .start3 .result ≡ start (text .holder) (text .size) = begin .start3 .ensures in
     c .spread3 .ensures
-    ∙ ap spread (mix .mixed-text .ensures ∙ ap (λ (h : ℕ). mixedText h (take (text .size) (drop (text .offset) (text .source .now)))) (begin .start3 .ensures))
-    ∙ hashing.text-inside _ _ _ _ (omega (arith, inside .if1 .left, fits .if2 .left))
+    ∙ ap spread (mix .mixed-text .ensures ∙ ap (λ (h : ℕ). mixedText h (take (text .size) (drop (text .offset) (text .source .now)))) begun)
+    ∙ hashing.text-inside (text .source .now) (text .holder) (text .offset) (text .size) (omega (arith, inside .if1 .left, fits .if2 .left))
 
 pub text-hash-spec : {M : Type 1} → statement M
 text-hash-spec =

@@ -1,7 +1,8 @@
 -- `keys::same_key` meets its contract. Assumes nothing.
-use mathlib.Core.Path.{sym, ap₂, _∙_}
+use mathlib.Core.Path.{sym, ap, ap₂, _∙_}
 use Rattle.keys.proofs.SameWords as same
 use Rattle.format.specs.Bytes.{sameBytes}
+use Rattle.format.specs.Kind.{hasText}
 use borrow.Author.Needs.{needs}
 use Rattle.keys.proofs.same_key.Statement.{statement}
 use Rattle.keys.proofs.same_key.Tie as tie
@@ -13,7 +14,10 @@ returns-2 : tie.Need-returns-2
 returns-2 c =
     let int = c .before .before in
     let same-tag = int .before .before in
-    sym (same.contents _ _ _ _ (same-tag .if1 .left) (int .if2 .taken))
+    sym (same.contents _ _ _ _ (same-tag .if1 .left) (ap hasText (int .if2 .taken)))
+
+has-text-requires : tie.Need-has-text-requires
+has-text-requires c κs = search needs
 
 text-of-requires : tie.Need-text-of-requires
 text-of-requires c κs = search needs
@@ -27,12 +31,28 @@ same-bytes-requires c κs = search needs
 returns-3 : tie.Need-returns-3
 returns-3 c =
     let first = c .before .before in
-    let string = first .before in
-    let same-tag = string .before .before in
+    let text = first .before in
+    let asked = text .before in
+    let same-tag = asked .before .before .before in
     c .same-bytes .ensures ∙ ap₂ sameBytes (first .text-of .ensures) (c .before .text-of2 .ensures)
-    ∙ sym (same.texts _ _ _ _ (same-tag .if1 .left) (string .if2 .left))
+    ∙ sym (same.texts _ _ _ _ (same-tag .if1 .left) (sym (asked .has-text .ensures) ∙ text .if3 .taken))
+
+returns-4 : tie.Need-returns-4
+returns-4 c =
+    let no-text = c .before .before in
+    let asked = no-text .before in
+    let same-tag = asked .before .before .before in
+    sym (same.contents _ _ _ _ (same-tag .if1 .left) (sym (asked .has-text .ensures) ∙ no-text .if3 .left))
 
 pub same-key-spec : {M : Type 1} → statement M
 same-key-spec =
     tie.close
-    (tie.spec returns returns-2 text-of-requires text-of-requires-2 same-bytes-requires returns-3)
+    (tie.spec
+    returns
+    returns-2
+    has-text-requires
+    text-of-requires
+    text-of-requires-2
+    same-bytes-requires
+    returns-3
+    returns-4)

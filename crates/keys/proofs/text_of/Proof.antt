@@ -21,7 +21,8 @@ slice-aggregate-result-2 c = search needs
 returns-2 : tie.Need-returns-2
 returns-2 c =
     let long = c .before in
-    sym (same.text-long _ _ _ (omega (arith, long .before .if1 .left)) (long .if2 .taken))
+    let text = long .before .before .args in
+    sym (same.text-long (text .source .now) (text .offset) (text .size) (omega (arith, long .before .if1 .left)) (omega (arith, long .if2 .taken)))
 
 add-to : tie.Need-add-to
 add-to c = search needs
