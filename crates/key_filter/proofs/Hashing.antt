@@ -3,12 +3,13 @@ use Prim.Native.Nat.{ℕ, suc, _+_, _-_, _*_, _/_, _^_, _≤_, _<_}
 use native.Mathlib.Nat.{add-zero}
 use native.Mathlib.Omega.{arith}
 use mathlib.Core.Path.{_≡_, refl, sym, ap, _∙_}
+use mathlib.Core.Bool.{true, false}
 use mathlib.Core.List.{List, []}
 use lib.Dec.{T}
 use lib.ListN.{length, getD, take, drop, length-drop}
 use lib.Seq.{length-take-le, getD-take, getD-drop, drop-drop, take-add, drop-at}
-use borrow.Author.Tests.{eq-eqb, ne-eqb, le-leb, lt-leb}
-use Rattle.format.specs.Kind.{Kind, tag}
+use borrow.Author.Tests.{le-leb, lt-leb}
+use Rattle.format.specs.Kind.{hasText}
 use Rattle.format.specs.Syntax.{intKey, stringKey, Key}
 use Rattle.format.specs.Keys.{KeyMeaning, keyMeaning, sameKey}
 use Rattle.format.specs.Table.{word}
@@ -142,20 +143,20 @@ text-outside s holder o n e = ap spread (sym (text-none (start holder 0) [] refl
 
 -- ---- words and keys
 
-pub words-int : (s : List ℕ) (holder : ℕ) (w : KeyWords) → w .tag ≡ tag Kind.int → hashWords s holder w ≡ intHash holder (w .content)
-unfolding hashWords
-words-int s holder w e = rw (hashWords, eq-eqb (w .tag) 105 e)
-
-pub words-text : (s : List ℕ) (holder : ℕ) (w : KeyWords) → (w .tag ≡ tag Kind.int → ⊥)
+pub words-text : (s : List ℕ) (holder : ℕ) (w : KeyWords) → hasText (w .tag) ≡ true
     → hashWords s holder w ≡ textHash holder (textOf s (w .content) (w .size))
 unfolding hashWords
-words-text s holder w n = rw (hashWords, ne-eqb (w .tag) 105 n)
+words-text s holder w h = rw (hashWords, h)
+
+pub words-int : (s : List ℕ) (holder : ℕ) (w : KeyWords) → hasText (w .tag) ≡ false → hashWords s holder w ≡ intHash holder (w .content)
+unfolding hashWords
+words-int s holder w n = rw (hashWords, n)
 
 pub hash-held : (s : List ℕ) (holder : ℕ) (w : KeyWords) (k : Key) → Held s k w → hashWords s holder w ≡ hashKey holder k
 unfolding hashKey
-hash-held s holder w (intKey x) h = words-int s holder w (h .is) ∙ ap (intHash holder) (sym (h .says))
+hash-held s holder w (intKey x) h = words-int s holder w (ap hasText (h .is)) ∙ ap (intHash holder) (sym (h .says))
 hash-held s holder w (stringKey q) h =
-    words-text s holder w (λ e. omega (arith, h .is, e))
+    words-text s holder w (ap hasText (h .is))
     ∙ ap (textHash holder) (text-part s (w .content) (w .size) (h .says .1) ∙ ap (λ (n : ℕ). take n (drop (w .content) s)) size-is ∙ sym (h .says .0))
   where
     size-is : w .content + w .size - w .content ≡ w .size

@@ -2,10 +2,10 @@
 use mathlib.Core.List.{List}
 use mathlib.Core.Bool.{true, false}
 use Prim.Native.Nat.{ℕ, zero, suc, _+_, _-_, _*_, _/_, _%_, _^_}
-use lib.Dec.{eqb, leb}
+use lib.Dec.{leb}
 use lib.Bits.{bitXor}
 use lib.ListN.{length, getD, drop}
-use Rattle.format.specs.Kind.{Kind, tag}
+use Rattle.format.specs.Kind.{hasText}
 use Rattle.format.specs.Syntax.{intKey, stringKey, Key}
 use Rattle.format.specs.Keys.{integer}
 use Rattle.format.specs.Table.{word}
@@ -59,7 +59,7 @@ textHash holder t = spread (mixedText (start holder (length t)) t)
 
 -- by the words of its node
 unfoldable pub hashWords : List ℕ → (holder : ℕ) → KeyWords → ℕ
-hashWords s holder w = elim (eqb (w .tag) (tag Kind.int)) [ true ↦ intHash holder (w .content) | false ↦ textHash holder (textOf s (w .content) (w .size)) ]
+hashWords s holder w = elim (hasText (w .tag)) [ true ↦ textHash holder (textOf s (w .content) (w .size)) | false ↦ intHash holder (w .content) ]
 
 -- by what it is
 unfoldable pub hashKey : (holder : ℕ) → Key → ℕ

@@ -3,7 +3,6 @@
 // `hash` takes a key by its words and the container's first node; `enter` marks a hash in the words lent, whatever their count, and says whether it was marked.
 // Nothing is refused: where no word is lent, each hash counts as marked. The reader calls both; what it needs is one law, that no key entered is taken for new
 // (`new-key`, proofs/Marking). So the filter decides time and never an answer. A crate of its own, so that an edit of it does not prove the reader again.
-use format::table::INT_TAG;
 use keys::KeyWords;
 ghost use mathlib.Core.Path.{_≡_};
 ghost use Prim.Native.Nat.{_+_, _*_, _^_, _≤_, _<_};
@@ -108,15 +107,14 @@ fn text_hash(source: &[u8], holder: usize, offset: usize, size: usize) -> u64
     spread(mixed_text(source, offset, size, start(holder, size)))
 }
 
-// The hash of a key of the container whose first key stands at node `holder`. By the tag of an integer and not by `Kind::has_text`, as keys has it: to ask the
-// kind here costs each key five instructions, 2.05 % of reading string keys. For an integer and a string the two say the same.
+// The hash of a key of the container whose first key stands at node `holder`: of its text, or of its pattern where its kind has none.
 pub fn hash(source: &[u8], holder: usize, key: KeyWords) -> u64
     ensures { λ r. ⌜ r ≡ hashWords (now (source .entry)) holder key ⌝ }
 {
-    if key.tag == INT_TAG {
-        return spread(mixed(start(holder, 0), key.content));
+    if key.has_text() {
+        return text_hash(source, holder, key.content as usize, key.size as usize);
     }
-    text_hash(source, holder, key.content as usize, key.size as usize)
+    spread(mixed(start(holder, 0), key.content))
 }
 
 // The bits of a hash in each of its words.

@@ -1,5 +1,5 @@
 // Keys by the words of their nodes, each with the source that it stands in: the key at a node (`key_at`), and whether two are equal (`same_key`), by their
-// texts where their kind has one (`Kind::has_text`).
+// texts where their kind has one (`KeyWords::has_text`).
 // Takes any table, node and words, and refuses nothing: a node that the table has not is all zeros, a text that does not stand in its source is empty.
 // Reader and placing call it, key_filter takes its words. It lies below them, so that an edit of the key test proves its own layer.
 // The two sources have lifetimes of their own, as those of `bytes_at::same_bytes`: the kit's borrow checker covers no call whose two lent slices must have one.
@@ -22,7 +22,7 @@ pub struct KeyWords {
 
 impl KeyWords {
     // Whether its words tell a text. Word 0 may be any number: one above a byte is no kind's tag.
-    fn has_text(self) -> bool
+    pub fn has_text(self) -> bool
         ensures { λ r. ⌜ r ≡ hasText (self .tag) ⌝ }
     {
         if 255 < self.tag {
