@@ -10,7 +10,6 @@ use crate::head::head;
 use crate::key::read_key;
 use crate::leaf::read_common;
 use crate::leaf::read_reference;
-use crate::leaf::read_scalar;
 use crate::seen::Seen;
 use crate::seen::next;
 use crate::table::open_node;
@@ -61,38 +60,8 @@ fn read_value(
     }
 }
 
-// A plan's own value, around all others. Reads as `read_value` does, which so is called in one place only, and the compiler keeps it in the loop over the
-// pairs.
-pub(crate) fn read_root(
-    source: &[u8],
-    table: &mut [u64],
-    filter: &mut [u64],
-    capacity: usize,
-    cursor: Cursor,
-) -> Step
-    requires { ⌜ Fit (now source) (now table) capacity cursor ⌝ }
-    ensures { λ r. ⌜ Meets (now (source .entry)) (now (table .entry)) (now (table .exit)) capacity cursor (valueAt (now (source .entry)) capacity cursor) r ⌝ }
-    ensures { λ r. ⌜ Grows (now (filter .entry)) (now (filter .exit)) ⌝ }
-{
-    let at = cursor.at;
-    if source.len() <= at {
-        return Step::Refused(TEXT_UNFIT, at);
-    }
-    let tag = source[at];
-    match tag {
-        Kind::NULL | Kind::BOOL | Kind::INT | Kind::FLOAT | Kind::STRING => {
-            read_scalar(source, table, capacity, cursor, tag)
-        }
-        Kind::ARRAY | Kind::OBJECT => read_container(source, table, filter, capacity, cursor, tag),
-        Kind::OBJECT_REFERENCE | Kind::VARIABLE_REFERENCE => {
-            read_reference(source, table, capacity, cursor, tag)
-        }
-        _ => Step::Refused(TAG_UNKNOWN, at),
-    }
-}
-
 // A container: 8, then 7, then its head, its pairs and its closing brace; its node's end is known last.
-fn read_container(
+pub(crate) fn read_container(
     source: &[u8],
     table: &mut [u64],
     filter: &mut [u64],
@@ -122,7 +91,7 @@ fn read_container(
     };
     let end = last.at;
     if !byte_is(source, end, b'}') {
-        return Step::Refused(TEXT_UNFIT, at);
+        return Step::Refused(TEXT_UNFIT, cursor.at);
     }
     put_end(table, cursor.node, last.node as u64);
     Step::Done(Cursor {

@@ -1,4 +1,4 @@
--- `reader::value::read_root` meets its contract, by the cases of `read_value`. Assumes nothing.
+-- `reader::root::read_root` meets its contract, by the cases of `read_value`. Assumes nothing.
 use borrow.Author.Needs.{needs}
 use mathlib.Core.Path.{refl, sym}
 use lib.ListN.{getD}
@@ -8,8 +8,8 @@ use Rattle.reader.specs.Steps.{TagAt}
 use Rattle.key_filter.proofs.Marking.{grows-none}
 use Rattle.reader.proofs.Tagged as tagged
 use Rattle.reader.proofs.Leaves as leaves
-use Rattle.reader.proofs.value.read_root.Statement.{statement}
-use Rattle.reader.proofs.value.read_root.Tie as tie
+use Rattle.reader.proofs.root.read_root.Statement.{statement}
+use Rattle.reader.proofs.root.read_root.Tie as tie
 
 -- where the plan does not end
 module _ (inside : tie.Else1) where
