@@ -7,7 +7,7 @@ use Prim.Native.Nat.{ℕ}
 use lib.Dec.{T, eqb, eqb→eq}
 use borrow.Author.Tests.{ne-eqb}
 use Rattle.decimal.proofs.Decide.{T-true, and-left, and-right}
-use Rattle.format.specs.Kind.{Kind, kinds, tag, isTagOf}
+use Rattle.format.specs.Kind.{Kind, tag, isTagOf}
 use Rattle.format.proofs.Floats.{or-cases}
 
 -- what an arm of a match says of a byte: it is one of the arm's tags, which the compiler puts in the order of their numbers
@@ -56,27 +56,3 @@ rest-not [] arms b w r = refl
 rest-not (k ∷ js) arms b w r =
     rest-not js arms b (and-right (inArms arms (tag k)) (all js (inArms arms)) w) r
     ∙ rw (ne-eqb b (tag k) (λ e. outside arms b r (subst (λ (x : ℕ). T (inArms arms x)) (sym e) (and-left (inArms arms (tag k)) (all js (inArms arms)) w))))
-
--- a fact for each kind
-pub each : (P : Kind → Type 0) → P Kind.null → P Kind.bool → P Kind.int → P Kind.float → P Kind.string → P Kind.array → P Kind.object → P Kind.objectReference
-    → P Kind.variableReference → (k : Kind) → P k
-each P a b c d e f g h i Kind.null = a
-each P a b c d e f g h i Kind.bool = b
-each P a b c d e f g h i Kind.int = c
-each P a b c d e f g h i Kind.float = d
-each P a b c d e f g h i Kind.string = e
-each P a b c d e f g h i Kind.array = f
-each P a b c d e f g h i Kind.object = g
-each P a b c d e f g h i Kind.objectReference = h
-each P a b c d e f g h i Kind.variableReference = i
-
--- the tag of a kind is known, and no other byte is
-pub known : (k : Kind) (b : ℕ) → b ≡ tag k → true ≡ isTagOf kinds b
-known k b e = rw e (each (λ j. true ≡ isTagOf kinds (tag j)) refl refl refl refl refl refl refl refl refl k)
-
-pub unknown : (b : ℕ) → ((k : Kind) → b ≡ tag k → ⊥) → false ≡ isTagOf kinds b
-unknown b n = go kinds
-  where
-    go : (ks : List Kind) → false ≡ isTagOf ks b
-    go [] = refl
-    go (k ∷ ks) = go ks ∙ rw (ne-eqb b (tag k) (n k))

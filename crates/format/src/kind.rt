@@ -1,6 +1,6 @@
 // The nine kinds, by their tags.
 ghost use mathlib.Core.Path.{_≡_};
-ghost use Rattle.format.specs.Kind.{kinds, isTagOf, hasOrdinal, mayBeKey, hasText};
+ghost use Rattle.format.specs.Kind.{hasOrdinal, mayBeKey, hasText};
 
 // A kind, by its tag. (The paper's letter of a kind is its tag.)
 pub struct Kind {
@@ -25,25 +25,6 @@ impl Kind {
     pub const OBJECT_REFERENCE: u8 = b'r';
 
     pub const VARIABLE_REFERENCE: u8 = b'R';
-
-    // Whether the tag is one of the nine.
-    pub fn is_known(self) -> bool
-        ensures { λ r. ⌜ r ≡ isTagOf kinds (self .tag) ⌝ }
-    {
-        let tag = self.tag;
-        match tag {
-            Kind::NULL => true,
-            Kind::BOOL => true,
-            Kind::INT => true,
-            Kind::FLOAT => true,
-            Kind::STRING => true,
-            Kind::ARRAY => true,
-            Kind::OBJECT => true,
-            Kind::OBJECT_REFERENCE => true,
-            Kind::VARIABLE_REFERENCE => true,
-            _ => false,
-        }
-    }
 
     // Whether a value of the kind takes an ordinal.
     pub fn has_ordinal(self) -> bool

@@ -9,7 +9,7 @@ use lib.Dec.{eqb, lit<}
 use lib.ListN.{length, getD, drop}
 use lib.Seq.{sets, getD-set-same, getD-set-other, length-sets}
 use Rattle.format.specs.Bytes.{byte, bytes}
-use Rattle.format.specs.Kind.{Kind, hasOrdinal}
+use Rattle.format.specs.Kind.{hasOrdinal}
 use Rattle.format.specs.Tree as tree
 use Rattle.format.specs.Tree.{branch, nodesIn, one}
 use Rattle.format.specs.Syntax.{array, object, Spelling, Container, Value, Values}
@@ -24,14 +24,14 @@ use Rattle.scanner.specs.Scans.{scanAnswer, Found, Scans, headText, containerTo
 use Rattle.bytes_at.proofs.BytesAt.{byte-there, expect-yes, expect-no}
 use Rattle.scanner.proofs.Numbers.{unfit-of}
 use Rattle.reader.specs.declared.cursor.Cursor.{Cursor}
-use Rattle.reader.specs.Texts.{isArrayTag, containerTag}
+use Rattle.reader.specs.Texts.{isArrayTag, containerKinds, containerTag}
 use Rattle.reader.specs.Nodes.{nodeOf, NodeOpened}
-use Rattle.reader.specs.Steps.{Points, Takes, TakesIn, Fit, KeptBelow, GoodValue, GoodPairs, innerAt, bodyAt, pairsAt}
+use Rattle.reader.specs.Steps.{Points, Takes, TakesIn, Fit, KeptBelow, GoodValue, GoodPairs, TagAt, roomAt, valueAt, innerAt, pairsAt}
 use Rattle.reader.proofs.Tagged.{passes}
 use Rattle.reader.proofs.Bodies.{pairsOf, body-head, head-array, head-node}
 use Rattle.reader.proofs.HeadTexts.{head-written}
 use Rattle.reader.proofs.Stored.{node-around, run-kept, run-word, points-keep, points-kept, points-step}
-use Rattle.reader.proofs.Leaves.{refused-by}
+use Rattle.reader.proofs.Leaves.{room-there, gate-open, refused-by}
 
 -- the cursor at a container's first pair
 abbrev pub within : Cursor → (next : ℕ) → Cursor
@@ -44,22 +44,23 @@ first-fit s t t₁ capacity c inside next e h f room l =
 
 -- a container takes an ordinal
 numbered : (b : ℕ) → containerTag b → hasOrdinal b ≡ true
-numbered b is = passes hasOrdinal (Kind.array ∷ Kind.object ∷ []) b tt is
+numbered b is = passes hasOrdinal containerKinds b tt is
 
 pub first-pair : (t t₁ : List ℕ) (c inside : Cursor) (b : ℕ) (x : Text) → containerTag b → NodeOpened t t₁ c b x inside → inside ≡ within c (x .next)
 first-pair t t₁ c inside b x is p =
     p .cursor ∙ ap (λ (own : Bool). record { at = x .next; node = c .node + 1; ordinal = c .ordinal + one own; levels = c .levels - 1 }) (numbered b is)
 
-module _ (s : List ℕ) (capacity : ℕ) (c : Cursor) (b : ℕ) (is : containerTag b) where
+module _ (s : List ℕ) (capacity : ℕ) (c : Cursor) (b : ℕ) (here : TagAt s c b) (is : containerTag b) (room : ok tt ≡ roomAt capacity c) where
   abbrev inner : Inner
   inner = innerAt s capacity (c .levels - 1)
 
   abbrev given : Answer (Value × List ℕ)
-  given = bodyAt s capacity inner b c
+  given = valueAt s capacity c
 
   opened : given ≡ (headText (isArrayTag b) (c .at) (drop (c .at + 1) s) >>= pairsOf (setting capacity s) inner (c .at) (c .ordinal) (c .node))
-  unfolding bodyAt
-  opened = body-head (setting capacity s) inner (c .at) (c .ordinal) (c .node) b (drop (c .at + 1) s) is
+  opened =
+      gate-open s capacity c b here containerKinds tt is room
+      ∙ body-head (setting capacity s) inner (c .at) (c .ordinal) (c .node) b (drop (c .at + 1) s) is
 
   pub head-not : (scan : Scan) (code n : ℕ) → Scans (headText (isArrayTag b)) (headTold (c .at + 1)) s (c .at + 1) scan → scan ≡ Scan.Not code
       → n ≡ codeOf (scanAnswer 0 scan) → given ≡ refused n (c .at)
@@ -110,7 +111,7 @@ module _ (s : List ℕ) (capacity : ℕ) (c : Cursor) (b : ℕ) (is : containerT
         closed-by : pairs ≡ refused code at → given ≡ refused code at
         closed-by e = opened-pairs ∙ ap (λ (o : Answer (Values × List ℕ)). o >>= shut) e
 
-    module _ (t t₁ t₂ t₃ : List ℕ) (fit : Fit s t capacity c) (room : c .node < capacity) (last : Cursor) (inside : Cursor)
+    module _ (t t₁ t₂ t₃ : List ℕ) (fit : Fit s t capacity c) (last : Cursor) (inside : Cursor)
         (first : NodeOpened t t₁ c b x inside)
         (read : GoodPairs s t₁ t₂ capacity inside (pairsAt s capacity b (x .link) inside) last) where
       g : GoodPairs s t₁ t₂ capacity (within c (x .next)) pairs last
@@ -125,7 +126,7 @@ module _ (s : List ℕ) (capacity : ℕ) (c : Cursor) (b : ℕ) (is : containerT
         e₁ = first .table ∙ ap (λ (own : Bool). sets t (c .node * width) (words (nodeOf b (taken own (c .ordinal + 1)) (c .node + 1) x))) (numbered b is)
 
         long : c .node * width + width ≤ length t
-        long = omega arith
+        long = omega (arith, fit .table, room-there capacity c room .1)
 
         l₁ : length t₁ ≡ length t
         l₁ = ap length e₁ ∙ length-sets t (c .node * width) (words (nodeOf b (c .ordinal + 1) (c .node + 1) x))

@@ -14,8 +14,8 @@ use Rattle.decimal.proofs.Decide.{Test, passed, failed, test, T-true, and-left,
 use Rattle.format.specs.Kind.{Kind, kinds, tag, isTagOf, keyKinds, mayBeKey}
 use Rattle.format.specs.Answer.{ok, refused, _>>=_}
 use Rattle.format.specs.Read.{kindOf, tagOf}
-use Rattle.format.proofs.Tags.{all}
-use Rattle.reader.specs.Texts.{among, kindFor, isArrayTag, OneOf, scalarTag, containerTag, referenceTag}
+use Rattle.format.proofs.Tags.{Arm, Rest, all, arm-is, rest-not}
+use Rattle.reader.specs.Texts.{among, kindFor, isArrayTag, OneOf, containerTag}
 
 -- the position of what is left
 pub position-is : (s : List ℕ) (i : ℕ) → i ≤ length s → length s - length (drop i s) ≡ i
@@ -134,19 +134,21 @@ key-is-string b e n = ⊎-elim (λ q. absurd (n q)) (λ o. ⊎-elim (λ q. q) (�
 
 -- ---- the choice among the nine
 
-pub scalar-rest : (b : ℕ) → isTagOf kinds b ≡ true → ((b ≡ tag Kind.object) ⊎ (b ≡ tag Kind.array) → ⊥)
-    → ((b ≡ tag Kind.variableReference) ⊎ (b ≡ tag Kind.objectReference) → ⊥) → scalarTag b
-scalar-rest b e x y = ⊎-elim inl (λ o. inr (⊎-elim inl (λ o. inr (⊎-elim inl (λ o. inr (⊎-elim inl (λ o. inr (⊎-elim inl (λ o. inr (none o)) o)) o)) o)) o))
-    (one-of kinds b e)
-  where
-    none : OneOf (Kind.array ∷ Kind.object ∷ Kind.objectReference ∷ Kind.variableReference ∷ []) b → ⊥
-    none o = ⊎-elim (λ q. x (inr q)) (λ o. ⊎-elim (λ q. x (inl q)) (λ o. ⊎-elim (λ q. y (inr q)) (λ o. ⊎-elim (λ q. y (inl q)) (λ z. z) o) o) o) o
+-- the arms of the code's match: the compiler puts their tags in the order of their numbers
+abbrev pub scalarArm : List Kind
+scalarArm = Kind.null ∷ Kind.bool ∷ Kind.float ∷ Kind.int ∷ Kind.string ∷ []
 
-pub container-of : (b : ℕ) → (b ≡ tag Kind.object) ⊎ (b ≡ tag Kind.array) → containerTag b
-container-of b o = ⊎-elim (λ q. inr (inl q)) inl o
+abbrev pub containerArm : List Kind
+containerArm = Kind.object ∷ Kind.array ∷ []
 
-pub reference-of : (b : ℕ) → (b ≡ tag Kind.variableReference) ⊎ (b ≡ tag Kind.objectReference) → referenceTag b
-reference-of b o = ⊎-elim (λ q. inr (inl q)) inl o
+abbrev pub referenceArm : List Kind
+referenceArm = Kind.variableReference ∷ Kind.objectReference ∷ []
+
+pub chosen : (js ks : List Kind) (b : ℕ) → T (all ks (isTagOf js)) → Arm ks b → OneOf js b
+chosen js ks b w a = one-of js b (sym (arm-is js ks b w a))
+
+pub none-chosen : (b : ℕ) → Rest (referenceArm ∷ containerArm ∷ scalarArm ∷ []) b → isTagOf kinds b ≡ false
+none-chosen b r = sym (rest-not kinds (referenceArm ∷ containerArm ∷ scalarArm ∷ []) b tt r)
 
 pub container-object : (b : ℕ) → containerTag b → (b ≡ tag Kind.array → ⊥) → b ≡ tag Kind.object
 container-object b o n = ⊎-elim (λ q. absurd (n q)) (λ o. ⊎-elim (λ q. q) (λ z. absurd z) o) o

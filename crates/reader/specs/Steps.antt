@@ -1,17 +1,15 @@
 -- What a step of reading answers and leaves in the table, by the definitions of `Read`.
 use mathlib.Core.Path.{_≡_}
-use mathlib.Core.Bool.{true}
 use mathlib.Core.List.{List, [], _∷_, _++_}
 use Prim.Native.Nat.{ℕ, suc, _+_, _*_, _≤_, _<_}
-use lib.Dec.{T}
+use lib.Dec.{T, ltb}
 use lib.ListN.{length, getD, drop}
 use lib.Seq.{sets}
-use Rattle.format.specs.Kind.{kinds, isTagOf}
 use Rattle.format.specs.Tree.{leaf, ref, branch, none, pair, nodes, nodesIn, ordinals, ordinalsIn}
 use Rattle.format.specs.Syntax.{Key, Value, Values, own}
 use Rattle.format.specs.Keys.{hasKey}
-use Rattle.format.specs.Answer.{Answer, ok, refused}
-use Rattle.format.specs.Read.{setting, Inner, readKey, readPairs, readBody, readValue, read}
+use Rattle.format.specs.Answer.{Answer, ok, refused, _>>=_, require}
+use Rattle.format.specs.Read.{setting, Inner, readKey, readPairs, readValue, read}
 use Rattle.format.specs.Table.{words, width, wordAt, ordinalWord, endWord, flat, keyNode, table, tableIn, tableOf}
 use Rattle.reader.specs.declared.cursor.Cursor.{Cursor}
 use Rattle.reader.specs.declared.cursor.Step.{Step}
@@ -19,7 +17,7 @@ use Rattle.reader.specs.declared.cursor.Gate.{Gate}
 use Rattle.keys.specs.KeyWords.{keyWordsAt, Held}
 use Rattle.key_filter.specs.Filter.{Grows}
 use Rattle.reader.specs.declared.seen.Seen.{Seen}
-use Rattle.reader.specs.Texts.{kindFor, isArrayTag}
+use Rattle.reader.specs.Texts.{isArrayTag}
 use Rattle.reader.specs.KeysSeen.{Chain, Known, next}
 
 -- ---- ordinals and the nodes that take them
@@ -50,9 +48,16 @@ innerAt s capacity levels seen before rest = readValue (setting capacity s) leve
 unfoldable pub valueAt : (s : List ℕ) (capacity : ℕ) → Cursor → Answer (Value × List ℕ)
 valueAt s capacity c = readValue (setting capacity s) (c .levels) (c .ordinal) (c .node) (drop (c .at) s)
 
--- what follows the tag of a value
-unfoldable pub bodyAt : (s : List ℕ) (capacity : ℕ) → Inner → (tag : ℕ) → Cursor → Answer (Value × List ℕ)
-bodyAt s capacity inner tag c = readBody (setting capacity s) inner (kindFor tag) (c .at) (c .ordinal) (c .node) (drop (c .at + 1) s)
+-- the tag of a value
+pub record TagAt (s : List ℕ) (c : Cursor) (tag : ℕ) : Type 0 where
+  pub inside : c .at < length s
+  pub is : getD s (c .at) 0 ≡ tag
+
+-- "At a letter: 3 or 4, then 8, then 7": the checks behind the choice of its kind
+unfoldable pub roomAt : (capacity : ℕ) → Cursor → Answer (Unit {0})
+roomAt capacity c = do
+  _ ← require (ltb 0 (c .levels)) 8 (c .at)
+  require (ltb (c .node) capacity) 7 (c .at)
 
 -- so many pairs of a container with this tag
 unfoldable pub pairsAt : (s : List ℕ) (capacity container count : ℕ) → Cursor → Answer (Values × List ℕ)
@@ -69,9 +74,9 @@ abbrev pub stepAnswer : Step → Answer Cursor
 stepAnswer (Step.Done c) = ok c
 stepAnswer (Step.Refused code at) = refused code at
 
--- the same of the checks at a value's tag, which stands at an index that the caller knows
-abbrev pub gateAnswer : (at : ℕ) → Gate → Answer ℕ
-gateAnswer at (Gate.Open tag) = ok tag
+-- the same of the checks behind the choice of a kind, the tag standing at an index that the caller knows
+abbrev pub gateAnswer : (at : ℕ) → Gate → Answer (Unit {0})
+gateAnswer at Gate.Open = ok tt
 gateAnswer at (Gate.Shut code) = refused code at
 
 -- what a step answers where the definition answers `o`: what is good, or the same refusal
@@ -163,17 +168,6 @@ pub record Remembers (s t t′ m m′ : List ℕ) (first node : ℕ) (seen : See
   pub grows : Grows m m′
   pub known : (c′ : Cursor) → stepAnswer r ≡ ok c′ → (k : Key) (ks : List Key) → Held s k (keyWordsAt t′ node) → Chain s t first node ks → Known seen m first ks
       → Known (next seen (keyWordsAt t′ node)) m′ first (ks ++ (k ∷ []))
-
--- the checks at a value's tag
-pub record IsOpen (s : List ℕ) (capacity : ℕ) (c : Cursor) (tag : ℕ) : Type 0 where
-  pub inside : c .at < length s
-  pub is : getD s (c .at) 0 ≡ tag
-  pub known : isTagOf kinds tag ≡ true
-  pub level : 0 < c .levels
-  pub free : c .node < capacity
-
-abbrev pub GateAt : (s : List ℕ) (capacity : ℕ) (c : Cursor) → Gate → Type 0
-GateAt s capacity c r = GoodOr (IsOpen s capacity c) (valueAt s capacity c) (gateAnswer (c .at) r)
 
 -- ---- a whole plan
 

@@ -29,11 +29,17 @@ OneOf (k ∷ ks) b = (b ≡ tag k) ⊎ OneOf ks b
 abbrev pub scalarTag : ℕ → Type 0
 scalarTag b = OneOf scalarKinds b
 
+abbrev pub containerKinds : List Kind
+containerKinds = Kind.array ∷ Kind.object ∷ []
+
 abbrev pub containerTag : ℕ → Type 0
-containerTag b = OneOf (Kind.array ∷ Kind.object ∷ []) b
+containerTag b = OneOf containerKinds b
+
+abbrev pub referenceKinds : List Kind
+referenceKinds = Kind.objectReference ∷ Kind.variableReference ∷ []
 
 abbrev pub referenceTag : ℕ → Type 0
-referenceTag b = OneOf (Kind.objectReference ∷ Kind.variableReference ∷ []) b
+referenceTag b = OneOf referenceKinds b
 
 abbrev pub keyTold : (at : ℕ) → Told Key
 keyTold at (intKey x) next = literalTold x next

@@ -1,16 +1,11 @@
-// How far reading is, what a step of it answers, and the checks at a value's tag.
+// How far reading is, what a step of it answers, and whether there is room for a value.
 use format::codes::TABLE_FULL;
-use format::codes::TAG_UNKNOWN;
-use format::codes::TEXT_UNFIT;
 use format::codes::TOO_DEEP;
-use format::kind::Kind;
 use scanner::Scan;
 ghost use mathlib.Core.Path.{_≡_};
-ghost use Prim.Native.Nat.{_≤_};
-ghost use lib.ListN.{length};
 ghost use Rattle.format.specs.Answer.{codeOf};
 ghost use Rattle.scanner.specs.Scans.{scanAnswer};
-ghost use Rattle.reader.specs.Steps.{GateAt};
+ghost use Rattle.reader.specs.Steps.{gateAnswer, roomAt};
 
 // The next byte, the next node, the ordinals taken and the levels left.
 pub struct Cursor {
@@ -26,9 +21,9 @@ pub enum Step {
     Refused(u8, usize),
 }
 
-// The checks at a value's tag: the tag, or the refusal's number.
+// Whether there is a level and a node for a value, or the refusal's number.
 pub enum Gate {
-    Open(u8),
+    Open,
     Shut(u8),
 }
 
@@ -64,27 +59,15 @@ pub(crate) fn code_of(scan: Scan) -> u8
     }
 }
 
-// "At a letter: 3 or 4, then 8, then 7": the checks at a value's tag.
-pub(crate) fn check_tag(source: &[u8], capacity: usize, cursor: Cursor) -> Gate
-    requires { ⌜ cursor .at ≤ length (now source) ⌝ }
-    ensures { λ r. ⌜ GateAt (now (source .entry)) capacity cursor r ⌝ }
+// "At a letter: 3 or 4, then 8, then 7": the checks of a value behind the choice of its kind.
+pub(crate) fn check_room(capacity: usize, cursor: Cursor) -> Gate
+    ensures { λ r. ⌜ gateAnswer (cursor .at) r ≡ roomAt capacity cursor ⌝ }
 {
-    let at = cursor.at;
-    let node = cursor.node;
-    let levels = cursor.levels;
-    if source.len() <= at {
-        return Gate::Shut(TEXT_UNFIT);
-    }
-    let tag = source[at];
-    let kind = Kind { tag };
-    if !kind.is_known() {
-        return Gate::Shut(TAG_UNKNOWN);
-    }
-    if levels == 0 {
+    if cursor.levels == 0 {
         return Gate::Shut(TOO_DEEP);
     }
-    if capacity <= node {
+    if capacity <= cursor.node {
         return Gate::Shut(TABLE_FULL);
     }
-    Gate::Open(tag)
+    Gate::Open
 }

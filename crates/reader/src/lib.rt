@@ -24,6 +24,7 @@ mod head;
 mod key;
 mod leaf;
 mod lookup;
+mod root;
 mod seen;
 mod table;
 mod value;
@@ -55,7 +56,7 @@ fn read_whole(source: &[u8], table: &mut [u64], filter: &mut [u64], capacity: us
         ordinal: 0,
         levels: DEPTH_LIMIT,
     };
-    let step = value::read_root(source, table, filter, capacity, start);
+    let step = root::read_root(source, table, filter, capacity, start);
     let Step::Done(end) = step else {
         return step;
     };

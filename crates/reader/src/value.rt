@@ -4,29 +4,27 @@ use crate::cursor::Gate;
 use crate::cursor::Step;
 use crate::cursor::again;
 use crate::cursor::anew;
-use crate::cursor::check_tag;
+use crate::cursor::check_room;
 use crate::cursor::code_of;
 use crate::head::head;
 use crate::key::read_key;
 use crate::leaf::read_common;
 use crate::leaf::read_reference;
-use crate::leaf::read_scalar;
 use crate::seen::Seen;
 use crate::seen::next;
 use crate::table::open_node;
 use crate::table::put_end;
 use bytes_at::byte_is;
+use format::codes::TAG_UNKNOWN;
 use format::codes::TEXT_UNFIT;
 use format::kind::Kind;
 use keys::key_at;
 use scanner::Scan;
-ghost use Prim.Native.Nat.{_-_, _<_};
-ghost use lib.ListN.{length};
 ghost use Rattle.key_filter.specs.Filter.{Grows};
 ghost use Rattle.reader.specs.Texts.{containerTag};
-ghost use Rattle.reader.specs.Steps.{Fit, valueAt, bodyAt, innerAt, pairsAt, Meets, MeetsPairs};
+ghost use Rattle.reader.specs.Steps.{Fit, TagAt, valueAt, pairsAt, Meets, MeetsPairs};
 
-// A value: "The kind of a byte decides everything that follows".
+// A value: 2 or 3, then by its kind. "The kind of a byte decides everything that follows".
 fn read_value(
     source: &[u8],
     table: &mut [u64],
@@ -39,62 +37,31 @@ fn read_value(
     ensures { λ r. ⌜ Grows (now (filter .entry)) (now (filter .exit)) ⌝ }
 {
     let at = cursor.at;
-    let gate = check_tag(source, capacity, cursor);
-    match gate {
-        Gate::Shut(code) => Step::Refused(code, at),
-        Gate::Open(tag) => match tag {
-            Kind::ARRAY | Kind::OBJECT => anew(read_container(
-                source,
-                table,
-                filter,
-                capacity,
-                again(cursor),
-                tag,
-            )),
-            Kind::OBJECT_REFERENCE | Kind::VARIABLE_REFERENCE => {
-                anew(read_reference(source, table, capacity, again(cursor), tag))
-            }
-            _ => read_common(source, table, capacity, cursor, tag),
-        },
+    if source.len() <= at {
+        return Step::Refused(TEXT_UNFIT, at);
+    }
+    let tag = source[at];
+    match tag {
+        Kind::NULL | Kind::BOOL | Kind::INT | Kind::FLOAT | Kind::STRING => {
+            read_common(source, table, capacity, cursor, tag)
+        }
+        Kind::ARRAY | Kind::OBJECT => anew(read_container(
+            source,
+            table,
+            filter,
+            capacity,
+            again(cursor),
+            tag,
+        )),
+        Kind::OBJECT_REFERENCE | Kind::VARIABLE_REFERENCE => {
+            anew(read_reference(source, table, capacity, again(cursor), tag))
+        }
+        _ => Step::Refused(TAG_UNKNOWN, at),
     }
 }
 
-// A plan's own value, around all others. Reads as `read_value` does, which so is called in one place only, and the compiler keeps it in the loop over the
-// pairs.
-pub(crate) fn read_root(
-    source: &[u8],
-    table: &mut [u64],
-    filter: &mut [u64],
-    capacity: usize,
-    cursor: Cursor,
-) -> Step
-    requires { ⌜ Fit (now source) (now table) capacity cursor ⌝ }
-    ensures { λ r. ⌜ Meets (now (source .entry)) (now (table .entry)) (now (table .exit)) capacity cursor (valueAt (now (source .entry)) capacity cursor) r ⌝ }
-    ensures { λ r. ⌜ Grows (now (filter .entry)) (now (filter .exit)) ⌝ }
-{
-    let at = cursor.at;
-    let gate = check_tag(source, capacity, cursor);
-    match gate {
-        Gate::Shut(code) => Step::Refused(code, at),
-        Gate::Open(tag) => match tag {
-            Kind::ARRAY | Kind::OBJECT => read_container(
-                source,
-                table,
-                filter,
-                capacity,
-                cursor,
-                tag,
-            ),
-            Kind::OBJECT_REFERENCE | Kind::VARIABLE_REFERENCE => {
-                read_reference(source, table, capacity, cursor, tag)
-            }
-            _ => read_scalar(source, table, capacity, cursor, tag),
-        },
-    }
-}
-
-// A container: its head, its pairs and its closing brace; its node's end is known last.
-fn read_container(
+// A container: 8, then 7, then its head, its pairs and its closing brace; its node's end is known last.
+pub(crate) fn read_container(
     source: &[u8],
     table: &mut [u64],
     filter: &mut [u64],
@@ -103,12 +70,16 @@ fn read_container(
     tag: u8,
 ) -> Step
     requires { ⌜ Fit (now source) (now table) capacity cursor ⌝ }
-    requires { ⌜ (cursor .at < length (now source)) × (cursor .node < capacity) × (0 < cursor .levels) × containerTag tag ⌝ }
-    ensures { λ r. ⌜ Meets (now (source .entry)) (now (table .entry)) (now (table .exit)) capacity cursor
-        (bodyAt (now (source .entry)) capacity (innerAt (now (source .entry)) capacity (cursor .levels - 1)) tag cursor) r ⌝ }
+    requires { ⌜ TagAt (now source) cursor tag × containerTag tag ⌝ }
+    ensures { λ r. ⌜ Meets (now (source .entry)) (now (table .entry)) (now (table .exit)) capacity cursor (valueAt (now (source .entry)) capacity cursor) r ⌝ }
     ensures { λ r. ⌜ Grows (now (filter .entry)) (now (filter .exit)) ⌝ }
 {
     let at = cursor.at;
+    let gate = check_room(capacity, cursor);
+    match gate {
+        Gate::Open => {}
+        Gate::Shut(code) => return Step::Refused(code, at),
+    }
     let scan = head(source, at, tag);
     let Scan::Is(text) = scan else {
         return Step::Refused(code_of(scan), at);
@@ -120,7 +91,7 @@ fn read_container(
     };
     let end = last.at;
     if !byte_is(source, end, b'}') {
-        return Step::Refused(TEXT_UNFIT, at);
+        return Step::Refused(TEXT_UNFIT, cursor.at);
     }
     put_end(table, cursor.node, last.node as u64);
     Step::Done(Cursor {

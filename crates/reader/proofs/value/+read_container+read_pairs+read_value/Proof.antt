@@ -3,14 +3,17 @@ use Prim.Native.Nat.{ℕ, _<_, _+_, _*_, _-_}
 use borrow.Author.Needs.{needs}
 use borrow.Author.Tests.{not-true, not-false}
 use native.Mathlib.Omega.{arith}
-use mathlib.Core.Path.{sym, ap, _∙_, subst}
+use mathlib.Core.Path.{_≡_, refl, sym, ap, _∙_, subst}
 use lib.Dec.{lit<}
-use lib.ListN.{length}
+use lib.ListN.{length, getD}
 use Rattle.format.specs.Bytes.{byte}
+use Rattle.format.specs.Kind.{scalarKinds}
+use Rattle.format.specs.Answer.{ok}
 use Rattle.bytes_at.proofs.BytesAt.{byte-there}
 use Rattle.scanner.proofs.Numbers.{found-of}
 use Rattle.reader.specs.declared.cursor.Cursor.{Cursor}
-use Rattle.reader.specs.Steps.{Fit, Meets, MeetsPairs, MeetsKey, IsOpen, GateAt}
+use Rattle.reader.specs.Texts.{containerKinds, referenceKinds}
+use Rattle.reader.specs.Steps.{Fit, TagAt, roomAt, Meets, MeetsPairs, MeetsKey}
 use Rattle.key_filter.proofs.Marking.{grows-none, grows-on}
 use Rattle.reader.proofs.Tagged as tagged
 use Rattle.reader.proofs.Leaves as leaves
@@ -29,7 +32,7 @@ use Rattle.reader.proofs.value.read_value.Kinds as value-kinds
 use Rattle.reader.proofs.value.+read_container+read_pairs+read_value.Lts-read_value as value-lts
 use Rattle.reader.proofs.cursor.again.Reads as again-reads
 use Rattle.reader.proofs.cursor.anew.Reads as anew-reads
-use Rattle.reader.proofs.cursor.check_tag.Reads as check-tag-reads
+use Rattle.reader.proofs.cursor.check_room.Reads as check-room-reads
 use Rattle.reader.proofs.cursor.code_of.Reads as code-of-reads
 use Rattle.reader.proofs.head.head.Reads as head-reads
 use Rattle.reader.proofs.key.read_key.Reads as read-key-reads
@@ -75,6 +78,8 @@ value-below t = and 3 value-kinds.ps (falls 3 value-kinds.ps _<_ μ-value t) rea
 
 abbrev container-calls : ℕ → container-lts.Claims
 container-calls t = (
+  check-room-reads.Asked,
+  check-room-reads.Learnt,
   head-reads.Asked,
   head-reads.Learnt,
   code-of-reads.Asked,
@@ -93,67 +98,95 @@ container-calls t = (
 abbrev Container : ℕ → (container-lts.Claims → In 3 container-kinds.ps → Out 3 container-kinds.ps container-kinds.r → Type 0) → Type 0
 Container t Need = Need (container-calls t) (container-at t) read-container.Post
 
-container-head-requires : (t : ℕ) → Container t container-lts.Need-head-requires
-container-head-requires t c κs = let given = c .before .before .before .pre .1 .1 in (given .0, given .3)
+-- where there is room
+module _ (t : ℕ) (free : Container t container-lts.After-enum-told) where
+  abbrev checked : Container t container-lts.After-check-room
+  checked = free .before .before
+
+  abbrev start : Container t container-lts.Start
+  start = checked .before .before .before .before
+
+  room : ok tt ≡ roomAt (start .args .capacity) (start .args .cursor)
+  room = leaves.gate-of _ _ _ _ (checked .check-room .ensures) (free .enum-told .given .1)
+
+-- where its node is written
+module _ (t : ℕ) (opened : Container t container-lts.After-open-node) where
+  abbrev found : Container t container-lts.After-scan
+  found = opened .before .before .before
+
+  abbrev headed : Container t container-lts.After-head
+  headed = found .before .before
+
+  abbrev within : Container t container-lts.After-enum-told
+  within = headed .before
 
 container-returns : (t : ℕ) → Container t container-lts.Need-returns
 container-returns t c =
+    let shut = c .before in
+    let checked = shut .before .before in
+    let tagged = checked .before .before .before .before .pre .1 .1 in (
+      leaves.gate-shut _ _ _ _ (tagged .0) containerKinds tt (tagged .1) _ (leaves.gate-of _ _ _ _ (checked .check-room .ensures) (shut .gate .given .1)),
+      grows-none _,
+    )
+
+container-head-requires : (t : ℕ) → Container t container-lts.Need-head-requires
+container-head-requires t c κs = let tagged = start t c .pre .1 .1 in (tagged .0 .inside, tagged .1)
+
+container-returns-2 : (t : ℕ) → Container t container-lts.Need-returns-2
+container-returns-2 t c =
     let failed = c .before in
     let headed = failed .before .before in
-    let start = headed .before .before .before .before in (
-      containers.head-not _ _ _ _ (start .pre .1 .1 .3) _ _ _ (headed .head .ensures) (failed .enum-told .given .1) (c .code-of .ensures),
+    let free = headed .before in
+    let tagged = start t free .pre .1 .1 in (
+      containers.head-not _ _ _ _ (tagged .0) (tagged .1) (room t free) _ _ _ (headed .head .ensures) (failed .enum-told2 .given .1) (c .code-of .ensures),
       grows-none _,
     )
 
 container-open-node-requires : (t : ℕ) → Container t container-lts.Need-open-node-requires
 container-open-node-requires t c κs =
-    let start = c .before .before .before .before .before .before .before .before in
-    let fit = start .pre .1 .0 in
-    let given = start .pre .1 .1 in
-    (omega arith, fit .ordinal, given .2)
+    let free = c .before .before .before .before .before in
+    let fit = start t free .pre .1 .0 in
+    let there = leaves.room-there _ _ (room t free) in
+    (omega (arith, fit .table, there .1), fit .ordinal, there .0)
 
 container-read-pairs-requires : (t : ℕ) → Container t container-lts.Need-read-pairs-requires
 container-read-pairs-requires t c κs =
     let opened = c .before .before .before .before in
-    let found = opened .before .before .before in
-    let headed = found .before .before in
-    let start = headed .before .before .before .before in
-    let fit = start .pre .1 .0 in
-    let given = start .pre .1 .1 in
-    let is = found-of (headed .head .ensures) (found .scan .given .1) in
-    let first = containers.first-pair _ _ _ _ _ _ (given .3) (opened .open-node .ensures) in (
-      omega (arith, ap (λ (i : Cursor). i .at) first, is .on, is .inside),
-      containers.first-fit _ _ _ _ _ _ _ first (is .inside) fit (given .1) (opened .open-node .kept .0),
-    )
-
-container-returns-2 : (t : ℕ) → Container t container-lts.Need-returns-2
-container-returns-2 t c =
-    let called = c .before .before .before .before .before .before in
-    let opened = called .before .before .before .before .before in
-    let found = opened .before .before .before in
-    let headed = found .before .before in
-    let start = headed .before .before .before .before in
-    let tagged = start .pre .1 .1 .3 in
-    let is = found-of (headed .head .ensures) (found .scan .given .1) in
-    let refused = subst (MeetsPairs _ _ _ _ _ _) (c .enum-told2 .given .1) (called .read-pairs .ensures .0) in (
-      leaves.meets-bad _ _ _ _ _ _ _ _ _ (c .enum-told2 .given .1)
-          (containers.pairs-refused _ _ _ _ tagged _ is _ (containers.first-pair _ _ _ _ _ _ tagged (opened .open-node .ensures)) _ _ refused),
-      called .read-pairs .ensures .1,
+    let free = within t opened in
+    let fit = start t free .pre .1 .0 in
+    let tagged = start t free .pre .1 .1 in
+    let is = found-of (headed t opened .head .ensures) (found t opened .scan .given .1) in
+    let first = containers.first-pair _ _ _ _ _ _ (tagged .1) (opened .open-node .ensures) in (
+      omega (arith, start t free .pre .0, ap (λ (i : Cursor). i .at) first, is .on, is .inside),
+      containers.first-fit _ _ _ _ _ _ _ first (is .inside) fit (leaves.room-there _ _ (room t free) .1) (opened .open-node .kept .0),
     )
 
 container-returns-3 : (t : ℕ) → Container t container-lts.Need-returns-3
 container-returns-3 t c =
+    let called = c .before .before .before .before .before .before in
+    let opened = called .before .before .before .before .before in
+    let free = within t opened in
+    let tagged = start t free .pre .1 .1 in
+    let is = found-of (headed t opened .head .ensures) (found t opened .scan .given .1) in
+    let refused = subst (MeetsPairs _ _ _ _ _ _) (c .enum-told3 .given .1) (called .read-pairs .ensures .0) in (
+      leaves.meets-bad _ _ _ _ _ _ _ _ _ (c .enum-told3 .given .1)
+          (containers.pairs-refused _ _ _ _ (tagged .0) (tagged .1) (room t free) _ is _
+          (containers.first-pair _ _ _ _ _ _ (tagged .1) (opened .open-node .ensures)) _ _ refused),
+      called .read-pairs .ensures .1,
+    )
+
+container-returns-4 : (t : ℕ) → Container t container-lts.Need-returns-4
+container-returns-4 t c =
     let compared = c .before in
     let read = compared .before .before in
     let called = read .before .before .before .before .before .before in
     let opened = called .before .before .before .before .before in
-    let found = opened .before .before .before in
-    let headed = found .before .before in
-    let start = headed .before .before .before .before in
-    let table = start .args .table .now in
-    let is = found-of (headed .head .ensures) (found .scan .given .1) in
+    let free = within t opened in
+    let tagged = start t free .pre .1 .1 in
+    let table = start t free .args .table .now in
+    let is = found-of (headed t opened .head .ensures) (found t opened .scan .given .1) in
     let pairs = subst (MeetsPairs _ _ _ _ _ _) (read .step .given .1) (called .read-pairs .ensures .0) in (
-      containers.brace-missing _ _ _ _ (start .pre .1 .1 .3) _ is table _ _ table (start .pre .1 .0) (start .pre .1 .1 .1) _ _
+      containers.brace-missing _ _ _ _ (tagged .0) (tagged .1) (room t free) _ is table _ _ table (start t free .pre .1 .0) _ _
           (opened .open-node .ensures) pairs
           (sym (compared .byte-is .ensures) ∙ not-true _ (c .if1 .taken)),
       called .read-pairs .ensures .1,
@@ -162,35 +195,34 @@ container-returns-3 t c =
 container-put-end-requires : (t : ℕ) → Container t container-lts.Need-put-end-requires
 container-put-end-requires t c κs =
     let called = c .before .before .before .before .before .before .before .before .before .before in
-    let start = called .before .before .before .before .before .before .before .before .before .before .before .before .before .before in
-    let fit = start .pre .1 .0 in
-    let given = start .pre .1 .1 in
-    omega arith
+    let free = within t (called .before .before .before .before .before) in
+    let fit = start t free .pre .1 .0 in
+    let there = leaves.room-there _ _ (room t free) in
+    omega (arith, fit .table, there .1)
 
-container-add-t27 : (t : ℕ) → Container t container-lts.Need-add-t27
-container-add-t27 t c =
+container-add-t29 : (t : ℕ) → Container t container-lts.Need-add-t29
+container-add-t29 t c =
     let closed = c .before .before .before .before in
     let compared = closed .before in
     let called = compared .before .before .before .before .before .before .before .before in
-    let start = called .before .before .before .before .before .before .before .before .before .before .before .before .before .before in
-    let good = start .good .0 in
+    let free = within t (called .before .before .before .before .before) in
+    let good = start t free .good .0 in
     omega (arith, byte-there _ _ (byte "}") (lit< tt) (sym (compared .byte-is .ensures) ∙ not-false _ (closed .if1 .left)))
 
-container-returns-4 : (t : ℕ) → Container t container-lts.Need-returns-4
-container-returns-4 t c =
+container-returns-5 : (t : ℕ) → Container t container-lts.Need-returns-5
+container-returns-5 t c =
     let ended = c .before .before in
     let closed = ended .before .before in
     let compared = closed .before in
     let read = compared .before .before in
     let called = read .before .before .before .before .before .before in
     let opened = called .before .before .before .before .before in
-    let found = opened .before .before .before in
-    let headed = found .before .before in
-    let start = headed .before .before .before .before in
-    let table = start .args .table .now in
-    let is = found-of (headed .head .ensures) (found .scan .given .1) in
+    let free = within t opened in
+    let tagged = start t free .pre .1 .1 in
+    let table = start t free .args .table .now in
+    let is = found-of (headed t opened .head .ensures) (found t opened .scan .given .1) in
     let pairs = subst (MeetsPairs _ _ _ _ _ _) (read .step .given .1) (called .read-pairs .ensures .0) in (
-      containers.container-good _ _ _ _ (start .pre .1 .1 .3) _ is table _ _ _ (start .pre .1 .0) (start .pre .1 .1 .1) _ _ (opened .open-node .ensures) pairs
+      containers.container-good _ _ _ _ (tagged .0) (tagged .1) (room t free) _ is table _ _ _ (start t free .pre .1 .0) _ _ (opened .open-node .ensures) pairs
           (sym (compared .byte-is .ensures) ∙ not-false _ (closed .if1 .left)) (called .read-pairs .kept .1 .0) (ended .put-end .ensures),
       called .read-pairs .ensures .1,
     )
@@ -319,8 +351,8 @@ pairs-returns-3 t c = let run = c .before .loop .inv in (pairs.run-done run (ome
 
 abbrev value-calls : ℕ → value-lts.Claims
 value-calls t = (
-  check-tag-reads.Asked,
-  check-tag-reads.Learnt,
+  read-common-reads.Asked,
+  read-common-reads.Learnt,
   again-reads.Asked,
   again-reads.Learnt,
   container-below t,
@@ -329,108 +361,97 @@ value-calls t = (
   anew-reads.Learnt,
   read-reference-reads.Asked,
   read-reference-reads.Learnt,
-  read-common-reads.Asked,
-  read-common-reads.Learnt,
 )
 
 -- a need of it at the measure t, or a moment in it
 abbrev Value : ℕ → (value-lts.Claims → In 3 value-kinds.ps → Out 3 value-kinds.ps value-kinds.r → Type 0) → Type 0
 Value t Of = Of (value-calls t) (value-at t) read-value.Post
 
--- what the checks at the tag say, where they let it pass
-module _ (t : ℕ) (opened : Value t value-lts.After-gate2) where
-  abbrev checked : Value t value-lts.After-check-tag
-  checked = opened .before .before
+-- where the plan does not end
+module _ (t : ℕ) (inside : Value t value-lts.Else1) where
+  abbrev begun : Value t value-lts.Start
+  begun = inside .before .before .before .before
 
-  abbrev start : Value t value-lts.Start
-  start = checked .before .before .before .before
+  here : TagAt (begun .args .source .now) (begun .args .cursor) (getD (begun .args .source .now) (begun .args .cursor .at) 0)
+  here = record { inside = inside .if1 .left; is = refl }
 
-  gate : IsOpen (start .args .source .now) (start .args .capacity) (start .args .cursor) (opened .gate2 .given .0 .0)
-  gate = subst (GateAt _ _ _) (opened .gate2 .given .1) (checked .check-tag .ensures)
+value-returns : (t : ℕ) → Value t value-lts.Need-returns
+value-returns t c = (leaves.gate-end _ _ _ (c .if1 .taken) (c .before .before .before .before .pre .1 .inside), grows-none _)
 
-value-check-tag-requires : (t : ℕ) → Value t value-lts.Need-check-tag-requires
-value-check-tag-requires t c κs = c .before .before .before .pre .1 .inside
+value-read-common-requires : (t : ℕ) → Value t value-lts.Need-read-common-requires
+value-read-common-requires t c κs =
+    let kind = c .before in
+    let inside = kind .before .before in
+    (begun t inside .pre .1, (here t inside, tagged.chosen scalarKinds tagged.scalarArm _ tt (kind .match .keys1)))
 
 value-read-container-requires : (t : ℕ) → Value t value-lts.Need-read-container-requires
 value-read-container-requires t c κs =
     let kind = c .before .before .before in
-    let opened = kind .before .before in
-    let same = c .again .ensures in
-    let g = leaves.open-again same (gate t opened) in (
-      omega (arith, start t opened .pre .0, ap (λ (x : Cursor). x .at) same),
-      (subst (Fit _ _ _) (sym same) (start t opened .pre .1), (g .inside, g .free, g .level, tagged.container-of _ (kind .match2 .keys1))),
+    let inside = kind .before .before in
+    let same = c .again .ensures in (
+      omega (arith, begun t inside .pre .0, ap (λ (x : Cursor). x .at) same),
+      (
+        subst (Fit _ _ _) (sym same) (begun t inside .pre .1),
+        (leaves.tag-again same (here t inside), tagged.chosen containerKinds tagged.containerArm _ tt (kind .match .keys2)),
+      ),
     )
 
 value-read-reference-requires : (t : ℕ) → Value t value-lts.Need-read-reference-requires
 value-read-reference-requires t c κs =
     let kind = c .before .before in
-    let opened = kind .before .before in
-    let same = c .again2 .ensures in
-    let g = leaves.open-again same (gate t opened) in
-    (subst (Fit _ _ _) (sym same) (start t opened .pre .1), (g .inside, g .free, tagged.reference-of _ (kind .match2 .keys2)))
-
-value-read-common-requires : (t : ℕ) → Value t value-lts.Need-read-common-requires
-value-read-common-requires t c κs =
-    let kind = c .before in
-    let opened = kind .before .before in
-    let g = gate t opened in
-    (start t opened .pre .1, (g .inside, g .free, tagged.scalar-rest _ (g .known) (kind .match2 .rest .0 .1) (kind .match2 .rest .1)))
-
-value-returns : (t : ℕ) → Value t value-lts.Need-returns
-value-returns t c =
-    let failed = c .before in
-    let checked = failed .before .before in
-    (subst (GateAt _ _ _) (failed .gate .given .1) (checked .check-tag .ensures), grows-none _)
+    let inside = kind .before .before in
+    let same = c .again2 .ensures in (
+      subst (Fit _ _ _) (sym same) (begun t inside .pre .1),
+      (leaves.tag-again same (here t inside), tagged.chosen referenceKinds tagged.referenceArm _ tt (kind .match .keys3)),
+    )
 
 value-returns-2 : (t : ℕ) → Value t value-lts.Need-returns-2
-value-returns-2 t c =
-    let called = c .before .before .before .before .before in
-    let opened = called .before .before .before .before .before .before in (
-      leaves.meets-again _ _ _ _ _ _ _ _ _ (gate t opened) (called .before .again .ensures) (c .anew .ensures) (called .read-container .ensures .0),
-      called .read-container .ensures .1,
-    )
+value-returns-2 t c = (c .before .before .read-common .ensures, grows-none _)
 
 value-returns-3 : (t : ℕ) → Value t value-lts.Need-returns-3
 value-returns-3 t c =
-    let called = c .before .before .before in
-    let opened = called .before .before .before .before .before in (
-      leaves.meets-again _ _ _ _ _ _ _ _ _ (gate t opened) (called .before .again2 .ensures) (c .anew2 .ensures) (called .read-reference .ensures _),
-      grows-none _,
+    let called = c .before .before .before .before .before in (
+      leaves.meets-again _ _ _ _ _ _ _ _ (called .before .again .ensures) (c .anew .ensures) (called .read-container .ensures .0),
+      called .read-container .ensures .1,
     )
 
 value-returns-4 : (t : ℕ) → Value t value-lts.Need-returns-4
 value-returns-4 t c =
-    let called = c .before .before in
-    let opened = called .before .before .before .before in (
-      leaves.meets-by _ _ _ _ _ _ _ (called .read-common .result) (leaves.gate-open _ _ _ _ (gate t opened)) (called .read-common .ensures _),
-      grows-none _,
-    )
+    let called = c .before .before .before in
+    (leaves.meets-again _ _ _ _ _ _ _ _ (called .before .again2 .ensures) (c .anew2 .ensures) (called .read-reference .ensures), grows-none _)
+
+value-returns-5 : (t : ℕ) → Value t value-lts.Need-returns-5
+value-returns-5 t c = (leaves.gate-other _ _ _ _ (here t (c .before .before)) (tagged.none-chosen _ (c .match .rest)), grows-none _)
 
 pub +read-container+read-pairs+read-value-spec : {M : Type 1} → statement M
 +read-container+read-pairs+read-value-spec =
     close μ-container μ-pairs μ-value
     (λ t. container-lts.spec (container-calls t) (container-at t) read-container.Post
+    (λ c κs. search needs)
+    (λ c. search needs)
+    (λ c. search needs)
+    (container-returns t)
     (container-head-requires t)
     (λ c. search needs)
     (λ c. search needs)
     (λ c κs. search needs)
-    (container-returns t)
+    (container-returns-2 t)
     (container-open-node-requires t)
     (container-read-pairs-requires t)
     (λ c. search needs)
     (λ c. search needs)
     (λ c. search needs)
     (λ c. search needs)
-    (container-returns-2 t)
+    (container-returns-3 t)
     (λ c κs. search needs)
     (λ c. search needs)
     (λ c. search needs)
-    (container-returns-3 t)
+    (container-returns-4 t)
     (container-put-end-requires t)
-    (container-add-t27 t)
+    (container-add-t29 t)
     (λ c. search needs)
     (λ c. search needs)
-    (container-returns-4 t))
+    (container-returns-5 t))
     (λ t. pairs-lts.spec (pairs-calls t) (pairs-at t) read-pairs.Post pairs-Inv-loop pairs-μ-loop
     (pairs-loop-holds t)
     (pairs-read-key-requires t)
@@ -454,21 +475,20 @@ pub +read-container+read-pairs+read-value-spec : {M : Type 1} → statement M
     (λ c. search needs)
     (pairs-returns-3 t))
     λ t. value-lts.spec (value-calls t) (value-at t) read-value.Post
-    (value-check-tag-requires t)
+    (value-returns t)
     (λ c. search needs)
-    (λ c. search needs)
+    (value-read-common-requires t)
     (λ c κs. search needs)
     (value-read-container-requires t)
     (λ c κs. search needs)
     (λ c κs. search needs)
     (value-read-reference-requires t)
     (λ c κs. search needs)
-    (value-read-common-requires t)
-    (value-returns t)
-    (λ c. search needs)
     (λ c. search needs)
     (value-returns-2 t)
+    (λ c. search needs)
     (λ c. search needs)
     (value-returns-3 t)
     (λ c. search needs)
     (value-returns-4 t)
+    (value-returns-5 t)
