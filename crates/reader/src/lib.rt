@@ -12,7 +12,6 @@ use format::codes::SOURCE_TOO_LONG;
 use format::limits::DEPTH_LIMIT;
 use format::limits::SOURCE_LIMIT;
 use format::table::WIDTH;
-ghost use mathlib.Core.Path.{_≡_};
 ghost use Prim.Native.Nat.{_*_, _≤_};
 ghost use lib.ListN.{length};
 ghost use Rattle.format.specs.Table.{width};

@@ -1,6 +1,6 @@
 -- `reader::root::read_root` meets its contract, by the cases of `read_value`. Assumes nothing.
 use borrow.Author.Needs.{needs}
-use mathlib.Core.Path.{refl, sym}
+use mathlib.Core.Path.{refl}
 use lib.ListN.{getD}
 use Rattle.format.specs.Kind.{scalarKinds}
 use Rattle.reader.specs.Texts.{containerKinds, referenceKinds}
