@@ -60,6 +60,7 @@ says "and Ways ($(lines crates/insertion/specs/Ways.antt)), for what a table say
 calls() { # LETTER
     grep -c "^$1 " crates/cases/stdin
 }
-says "runs $(($(calls r) + $(calls c) + $(calls i))) worked calls from its file \`stdin\`, $(calls r) of \`read\`, $(calls c) of \`canonicalize\` and $(calls i) of \`insert\`"
+all=$(($(calls r) + $(calls c) + $(calls i)))
+says "runs $all worked calls from its file \`stdin\`, $(calls r) of \`read\`, $(calls c) of \`canonicalize\` and $(calls i) of \`insert\`"
 
 exit $failed

@@ -257,7 +257,8 @@ module _ (capacity : ℕ) (source : List ℕ) (v : Value) (e : read capacity sou
 -- ---- inserting
 
 -- the spot of what was placed, and what it leads to
-module _ {source : List ℕ} {node place : ℕ} {key value before after : List ℕ} {placing : Placing} (l : Locates source node place key value before after placing) where
+module _ {source : List ℕ} {node place : ℕ} {key value before after : List ℕ} {placing : Placing}
+    (l : Locates source node place key value before after placing) where
   module _ {p : Spot} (e : placing ≡ Placing.At p) where
     spot-is : spotFor (capacityOf before) source node place key value ≡ ok p
     spot-is = sym (l .answer) ∙ ap placingAnswer e

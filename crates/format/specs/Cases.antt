@@ -61,8 +61,8 @@ shown (insertion node place key value a) r i = sameAnswer a (i node place key va
 
 -- every case of a table, with all that it takes to compute it open
 unfoldable pub hold : List Case → Bool
-unfolding shown tableOf canonical insert keyOf scalarOf insertionOf insertBytes read readBody readBranch readKey keyText digits number intText quotedText boolText
-    floatText referenceText isFloat decimal decimalIn write
+unfolding shown tableOf canonical insert keyOf scalarOf insertionOf insertBytes read readBody readBranch readKey keyText digits number intText quotedText
+    boolText floatText referenceText isFloat decimal decimalIn write
 hold [] = true
 hold (c ∷ cs) = shown (c .outcome) (read (c .capacity) (c .source)) (insertBytes (c .capacity) sourceLimit (c .source)) && hold cs
 

@@ -229,7 +229,8 @@ module _ (v : Value) (valid : Valid v) (node : ℕ) (site : Site) (way : WayTo v
       module _ (x : Passed) (r : Reached s from-head (length (site .path)) x) (m o : ℕ) (z : Spot) (i : SpotIs s from-pairs from-gap (x .at) m o z) where
         pub spot-is : m ≡ count qs → o ≡ newOrdinal (site .path) place v → z ≡ spot
         spot-is c n =
-            same-spot z spot (i .tag ∙ index-is to-head from-head before-head (r .here) (r .inside)) (index-is to-pairs from-pairs before-pairs (i .first .here) (i .first .inside))
+            same-spot z spot (i .tag ∙ index-is to-head from-head before-head (r .here) (r .inside))
+            (index-is to-pairs from-pairs before-pairs (i .first .here) (i .first .inside))
             (index-is to-gap from-gap before-gap (i .gap .here) (i .gap .inside)) (i .counted ∙ c) (i .taken ∙ n)
 
 -- ---- the bytes with the pair in it

@@ -84,7 +84,17 @@ between xs front h ps back ys =
 mutual
   pub site-tokens : {v : Value} {i : ℕ} {a : TreePath} {qs : Values} → WayTo v i a qs
       → SiteTokens (tokens v) (λ g f. tokens (atPath g f a v)) (λ part. before part a v) i a qs
-  site-tokens (found h ps c) = record { front = []; head = h; back = []; is-array = c; split = refl; edits = λ g f. refl; stands = λ part. refl; nodes = refl; level = refl }
+  site-tokens (found h ps c) = record {
+    front = [];
+    head = h;
+    back = [];
+    is-array = c;
+    split = refl;
+    edits = λ g f. refl;
+    stands = λ part. refl;
+    nodes = refl;
+    level = refl;
+  }
   site-tokens (inside h {ps} {qs} {q = q} {a = a} w) =
       let s = site-tokens-in w in
       record {

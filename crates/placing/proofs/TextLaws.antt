@@ -152,7 +152,8 @@ module _ (key value : List ℕ) where
       sym (rw (ap keyOf (k .written) ∙ key-text (k .key) (k .fits), ap scalarOf (y .written) ∙ scalar-text (y .scalar) (y .fits))
       (ap {B = Answer KeyWords} (λ u. ok u) (sym (k .words))))
 
-  pub texts-unfit : ((k : Key) (x : Scalar) → KeyFits k → key ≡ writeKey k [] → ScalarFits x → value ≡ writeScalar x [] → ⊥) → refused 13 0 ≡ pairWords key value
+  pub texts-unfit : ((k : Key) (x : Scalar) → KeyFits k → key ≡ writeKey k [] → ScalarFits x → value ≡ writeScalar x [] → ⊥)
+      → refused 13 0 ≡ pairWords key value
   unfolding pairWords
   texts-unfit f = sym (texts-refused key value _ f)
 

@@ -196,8 +196,8 @@ module _ (s : List ℕ) (capacity : ℕ) (c : Cursor) (b : ℕ) (here : TagAt s 
       → GoodValue s t t′ capacity c (valueAt s capacity c) c′
   scalar-good t t′ x c′ takes fit f e p =
       let q : NodeAdded t t′ c b x true c′ = subst (λ (own : Bool). NodeAdded t t′ c b x own c′) (e ∙ passes hasOrdinal scalarKinds b tt is) p in
-      leaf-good s t t′ capacity c c′ b x true fit (room-there capacity c room .1) q (valueAt s capacity c) (leaf (f .what)) (opened ∙ rw (f .is (c .at))) (omega (arith, f .on))
-      (f .inside) refl refl
+      leaf-good s t t′ capacity c c′ b x true fit (room-there capacity c room .1) q (valueAt s capacity c) (leaf (f .what)) (opened ∙ rw (f .is (c .at)))
+      (omega (arith, f .on)) (f .inside) refl refl
       (λ to q. ap (λ (n : Node). n ∷ []) (scalar-node b (c .at) (c .at) (c .node) (suc (c .ordinal)) (x .next) (drop (c .at + 1) s) (
         f .what,
         drop (x .next) s,

@@ -10,10 +10,14 @@ returns : tie.Need-returns
 returns c = laws.check-is 7 (lt-leb (c .before .args .nodes + 2) (c .before .args .capacity) (omega (arith, c .if1 .taken)))
 
 returns-2 : tie.Need-returns-2
-returns-2 c = laws.check-is 7 (lt-leb (c .before .before .args .nodes + 2) (c .before .before .args .capacity) (omega (arith, c .before .if1 .left, c .if2 .taken)))
+returns-2 c =
+    laws.check-is 7
+    (lt-leb (c .before .before .args .nodes + 2) (c .before .before .args .capacity) (omega (arith, c .before .if1 .left, c .if2 .taken)))
 
 returns-3 : tie.Need-returns-3
-returns-3 c = laws.check-is 7 (le-leb (c .before .before .args .nodes + 2) (c .before .before .args .capacity) (omega (arith, c .before .if1 .left, c .if2 .left)))
+returns-3 c =
+    laws.check-is 7
+    (le-leb (c .before .before .args .nodes + 2) (c .before .before .args .capacity) (omega (arith, c .before .if1 .left, c .if2 .left)))
 
 pub two-more-spec : {M : Type 1} → statement M
 two-more-spec = tie.close (tie.spec returns returns-2 returns-3)
