@@ -11,7 +11,7 @@ use Rattle.format.specs.Syntax.{intKey, stringKey, null, bool, int, floa
 use Rattle.format.specs.Syntax.{Values, own, writeNumber, writeQuoted, writeKey, writeScalar, writeContainer, write, writePairs, print}
 use Rattle.format.specs.Table.{Node, textOffset, keyNode, scalarNode, branchNode, refNode, table, tableIn, targetOf, tableOf, pairsOffset, valueOffset}
 use Rattle.format.specs.Table.{nextOffset}
-use Rattle.format.specs.Shows.{nodeAt, opening, TextBehind, PlacedKey, PlacedScalar, PlacedContainer, Placed, PlacedIn}
+use Rattle.format.specs.Shows.{nodeAt, upToText, TextBehind, PlacedKey, PlacedScalar, PlacedContainer, Placed, PlacedIn}
 use Rattle.format.proofs.Fronts.{number-front, number-length, key-front, container-front, write-front}
 use Rattle.format.proofs.Rows.{at-first, at-after, at-next, table-length}
 
@@ -113,13 +113,13 @@ module _ (source : List ℕ) where
       }
 
   past-quote : (o : ℕ) (k : Kind) (b : List ℕ) (q : Quoted) (r : List ℕ) → Stands o b (tag k ∷ 58 ∷ writeQuoted q r)
-      → Stands (textOffset o q) (b ++ opening k q) (q .text ++ (34 ∷ r))
+      → Stands (textOffset o q) (b ++ upToText k q) (q .text ++ (34 ∷ r))
   past-quote o k b q r s =
       let w : Spelling = q .spelling in
       let n : ℕ = length (q .text) in
       let long = number-length w n (58 ∷ 34 ∷ []) in
       let short = number-length w n [] in
-      past o (textOffset o q) b (opening k q) (tag k ∷ 58 ∷ writeQuoted q r) (q .text ++ (34 ∷ r)) s
+      past o (textOffset o q) b (upToText k q) (tag k ∷ 58 ∷ writeQuoted q r) (q .text ++ (34 ∷ r)) s
       (ap {B = List ℕ} (λ x. tag k ∷ 58 ∷ x) (number-front w n (58 ∷ 34 ∷ []) (q .text ++ (34 ∷ r)))) (omega arith)
 
   past-head : (o : ℕ) (b : List ℕ) (h : Head) (n : ℕ) (r : List ℕ)

@@ -116,8 +116,8 @@ module _ (source : List ℕ) (rows : List Node) where
     ShowsIn i (pair k v ps) = ShowsKey i k × Shows (suc i) v × ShowsIn (nodeAt rows (suc i) .end) ps
 
 -- from its tag on, what stands before a quoted text: letter, `:`, number, `:"`
-abbrev pub opening : Kind → Quoted → List ℕ
-opening k q = tag k ∷ byte ":" ∷ writeNumber (q .spelling) (length (q .text)) (byte ":" ∷ byte "\"" ∷ [])
+abbrev pub upToText : Kind → Quoted → List ℕ
+upToText k q = tag k ∷ byte ":" ∷ writeNumber (q .spelling) (length (q .text)) (byte ":" ∷ byte "\"" ∷ [])
 
 module _ (source : List ℕ) (rows : List Node) where
   -- "offset of the text", "offset of the class name": word 2 is the length of all that stands before it in the plan
@@ -128,18 +128,18 @@ module _ (source : List ℕ) (rows : List Node) where
   -- the text of a key, a scalar or a head, if it has one: `before` is all that stands before its tag
   abbrev pub PlacedKey : (i : ℕ) → (before : List ℕ) → Key → Type 0
   PlacedKey i before (intKey x) = Unit {0}
-  PlacedKey i before (stringKey q) = TextBehind i (before ++ opening Kind.string q) (q .text)
+  PlacedKey i before (stringKey q) = TextBehind i (before ++ upToText Kind.string q) (q .text)
 
   abbrev pub PlacedScalar : (i : ℕ) → (before : List ℕ) → Scalar → Type 0
   PlacedScalar i before null = Unit {0}
   PlacedScalar i before (bool b) = Unit {0}
   PlacedScalar i before (int x) = Unit {0}
   PlacedScalar i before (float t) = TextBehind i (before ++ (tag Kind.float ∷ byte ":" ∷ [])) t
-  PlacedScalar i before (string q) = TextBehind i (before ++ opening Kind.string q) (q .text)
+  PlacedScalar i before (string q) = TextBehind i (before ++ upToText Kind.string q) (q .text)
 
   abbrev pub PlacedContainer : (i : ℕ) → (before : List ℕ) → Container → Type 0
   PlacedContainer i before array = Unit {0}
-  PlacedContainer i before (object q) = TextBehind i (before ++ opening Kind.object q) (q .text)
+  PlacedContainer i before (object q) = TextBehind i (before ++ upToText Kind.object q) (q .text)
 
   -- the texts of the value at node i: its own, then those of its pairs
   abbrev mutual
