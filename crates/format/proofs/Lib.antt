@@ -3,7 +3,10 @@ pub mod Tags
 pub mod Answers
 pub mod Keys
 pub mod Floats
+pub mod Forms
+pub mod Room
 pub mod Texts
+pub mod PlanForm
 pub mod Printed
 pub mod Inversion
 pub mod Unique

@@ -12,7 +12,7 @@ use Rattle.format.specs.Syntax.{Literal, Quoted, Key, Scalar, Container,
 use Rattle.format.specs.Syntax.{writeScalar, writeContainer, write, writePairs, print}
 use lib.IntN.{ℤ, pos, negsuc}
 use Rattle.format.specs.Keys.{signed, integer, keyMeaning, hasKey}
-use Rattle.format.specs.Limits.{depthLimit, integerLimit, unseen}
+use Rattle.format.specs.Limits.{depthLimit, integerLimit, Terms, unseen}
 use Rattle.format.specs.Fits.{IntFits, KeyFits, ScalarFits, ContainerFits, allowed, Sound, SoundIn, Limited, LimitedIn, Backward, BackwardIn, Shallow}
 use Rattle.format.specs.Fits.{ShallowIn, Valid, Fits}
 use Rattle.format.specs.Answer.{ok}
@@ -244,9 +244,9 @@ canonical-valid v f =
       limited = limited-canonical v (f .limited);
     }
 
-pub canonical-fits : (capacity : ℕ) (v : Value) → Fits capacity v → Fits capacity (canonical v)
-canonical-fits capacity v f = record { valid = canonical-valid v (f .valid); small = omega (arith, nodes-canonical v, f .small) }
+pub canonical-fits : (terms : Terms) (v : Value) → Fits terms v → Fits terms (canonical v)
+canonical-fits terms v f = record { valid = canonical-valid v (f .valid); small = omega (arith, nodes-canonical v, f .small) }
 
 -- so it is read as what it was printed from
-pub canonical-read : (capacity : ℕ) (v : Value) → Fits capacity v → read capacity (print (canonical v)) ≡ ok (canonical v)
-canonical-read capacity v f = read-print capacity (canonical v) (canonical-fits capacity v f)
+pub canonical-read : (terms : Terms) (v : Value) → Fits terms v → read terms (print (canonical v)) ≡ ok (canonical v)
+canonical-read terms v f = read-print terms (canonical v) (canonical-fits terms v f)

@@ -2,7 +2,7 @@
 use mathlib.Core.Path.{_≡_, refl}
 use mathlib.Core.List.{List, [], _∷_, _++_}
 use mathlib.Core.Bool.{true, false, not}
-use Prim.Native.Nat.{ℕ, zero, suc, _+_, _-_, _≤_, _<_}
+use Prim.Native.Nat.{ℕ, suc, _-_, _≤_, _<_}
 use native.Mathlib.Omega.{arith}
 use lib.Dec.{T, eqb, eqb-refl}
 use lib.ListN.{length, length-append}
@@ -12,19 +12,20 @@ use Rattle.decimal.specs.Digits.{isDigit, decimal, spelled}
 use Rattle.decimal.proofs.Decide.{T-true, and-left}
 use Rattle.decimal.proofs.Numerals.{areDigits, digit-low, digits-before, after-before, value-spelled, spelled-digits, spelled-some, spelled-length}
 use Rattle.format.specs.Bytes.{byte}
-use Rattle.format.specs.Kind.{tag}
-use Rattle.format.specs.Tree.{leaf, ref, branch, none, pair, count, nodes, nodesIn}
+use Rattle.format.specs.Kind.{Kind}
+use Rattle.format.specs.Tree.{leaf, ref, branch, none, pair, count}
 use Rattle.format.specs.Syntax.{intKey, stringKey, null, bool, int, float, string, array, object, Spelling, Sign, unsigned, plus, minus, Literal, Quoted}
-use Rattle.format.specs.Syntax.{Key, Scalar, Container, Head, RefKind, objectRef, variableRef, refKind, Reference, Value, Values, writeNumber, writeSign}
-use Rattle.format.specs.Syntax.{writeQuoted, writeKey, writeScalar, writeContainer, write, writePairs, print}
+use Rattle.format.specs.Syntax.{Key, Scalar, Container, Value, Values, writeNumber, writeSign, writeQuoted, writeKey, writeScalar, writeContainer, write}
+use Rattle.format.specs.Syntax.{writePairs, print}
 use Rattle.format.specs.Keys.{hasKey}
-use Rattle.format.specs.Limits.{numberLimit, sourceLimit, depthLimit, integerLimit, signOf, isFloat, Seen, unseen, seeBranch, see}
-use Rattle.format.specs.Fits.{IntFits, QuotedFits, KeyFits, ScalarFits, ContainerFits, allowed, Sound, SoundIn, Limited, LimitedIn, Backward, BackwardIn}
-use Rattle.format.specs.Fits.{Shallow, ShallowIn, Fits}
+use Rattle.format.specs.Limits.{numberLimit, integerLimit, Terms, signOf, isFloat, Seen}
+use Rattle.format.specs.Fits.{IntFits, QuotedFits, KeyFits, ScalarFits, ContainerFits, allowed, Sound, SoundIn, Limited, LimitedIn, Fits}
 use Rattle.format.specs.Answer.{ok}
-use Rattle.format.specs.Read.{digits, number, expect, intText, quotedText, boolText, floatText, referenceText, Setting, setting, position, isArray}
-use Rattle.format.specs.Read.{keyText, Inner, readKey, readPairs, readBranch, readBody, readValue, read}
+use Rattle.format.specs.Read.{digits, number, expect, intText, quotedText, boolText, floatText, scalarText, countText, headText, namedText, keyText}
+use Rattle.format.specs.Read.{planForm, setting, isArray, readKey, readValue, read}
 use Rattle.format.proofs.Floats.{float-semicolon, until-semicolon}
+use Rattle.format.proofs.Forms.{IsScalar, WritesScalar, WritesKey, WritesHead, Writing, WritingIn, Fresh, FreshIn, key-accepted, value-accepted, fits-accepted}
+use Rattle.format.proofs.PlanForm.{plan-tagged}
 
 -- ---- texts
 
@@ -84,111 +85,98 @@ pub float-printed : (l : ℕ) (t r : List ℕ) → T (isFloat t) → floatText l
 unfolding floatText
 float-printed l t r h = rw (until-semicolon t r (float-semicolon t h), T-true (isFloat t) h, drop-append-seam t (byte ";" ∷ r))
 
-reference-printed : (l : ℕ) (seen : Seen) (n : Reference) (r : List ℕ) → n .named ≤ numberLimit → 1 ≤ n .named → n .named ≤ seen
-    → referenceText (n .kind) l seen (byte ":" ∷ writeNumber (n .spelling) (n .named) (byte ";" ∷ r)) ≡ ok (n, r)
-unfolding referenceText
-reference-printed l seen n r f p q = rw (number-printed l (n .spelling) (n .named) (byte ";") r f refl, lt-ltb 0 (n .named) p, le-leb (n .named) seen q)
+named-printed : (l : ℕ) (w : Spelling) (t : ℕ) (r : List ℕ) → t ≤ numberLimit → namedText l (byte ":" ∷ writeNumber w t (byte ";" ∷ r)) ≡ ok ((w, t), r)
+unfolding namedText
+named-printed l w t r f = rw (number-printed l w t (byte ";") r f refl)
 
--- ---- values and pairs
+-- ---- a print is a writing in the plan's form
 
-module _ (set : Setting) where
-  pub key-printed : (c : Container) (earlier : List Key) (before : ℕ) (k : Key) (r : List ℕ) → before < set .capacity → KeyFits k → T (allowed c k)
-      → T (not (hasKey k earlier))
-      → readKey set (isArray c) earlier before (writeKey k r) ≡ ok (k, r)
-  unfolding readKey keyText
-  key-printed array earlier before (intKey x) r b f a d = rw (
-    lt-ltb before (set .capacity) b,
-    int-printed (position set (writeKey (intKey x) r)) x r f,
-    T-true (not (hasKey (intKey x) earlier)) d,
+writes-key : (c : Container) (k : Key) (r : List ℕ) → KeyFits k → T (allowed c k) → WritesKey planForm (isArray c) k (writeKey k r) r
+unfolding keyText
+writes-key array (intKey x) r f a = record { kind = Kind.int; rest = _; tagged = λ at. refl; text = λ l. rw (int-printed l x r f) }
+writes-key array (stringKey q) r f a = record { kind = Kind.string; rest = _; tagged = λ at. refl; text = λ l. rw (quoted-printed l (byte ";") q r f) }
+writes-key (object t) (intKey x) r f a = absurd a
+writes-key (object t) (stringKey q) r f a = record { kind = Kind.string; rest = _; tagged = λ at. refl; text = λ l. rw (quoted-printed l (byte ";") q r f) }
+
+writes-scalar : (x : Scalar) (r : List ℕ) → ScalarFits x → WritesScalar planForm x (writeScalar x r) r
+unfolding scalarText boolText
+writes-scalar null r f = record { kind = Kind.null; scalar = IsScalar.null; rest = _; here = refl; text = λ l. refl }
+writes-scalar (bool true) r f = record { kind = Kind.bool; scalar = IsScalar.bool; rest = _; here = refl; text = λ l. refl }
+writes-scalar (bool false) r f = record { kind = Kind.bool; scalar = IsScalar.bool; rest = _; here = refl; text = λ l. refl }
+writes-scalar (int x) r f = record { kind = Kind.int; scalar = IsScalar.int; rest = _; here = refl; text = λ l. rw (int-printed l x r f) }
+writes-scalar (float t) r f = record { kind = Kind.float; scalar = IsScalar.float; rest = _; here = refl; text = λ l. rw (float-printed l t r f) }
+writes-scalar (string q) r f =
+    record { kind = Kind.string; scalar = IsScalar.string; rest = _; here = refl; text = λ l. rw (quoted-printed l (byte ";") q r f) }
+
+writes-head : (c : Container) (w : Spelling) (n : ℕ) (r : List ℕ) → ContainerFits c → n ≤ numberLimit
+    → WritesHead planForm (record { container = c; spelling = w }) n (writeContainer c (writeNumber w n (byte ":" ∷ byte "{" ∷ r))) r
+unfolding headText countText
+writes-head array w n r f m = record { rest = _; here = refl; text = λ l. rw (number-printed l w n (byte ":") (byte "{" ∷ r) m refl) }
+writes-head (object q) w n r f m = record {
+  rest = _;
+  here = refl;
+  text = λ l. rw (
+    quoted-printed l (byte ":") q (writeNumber w n (byte ":" ∷ byte "{" ∷ r)) f,
+    number-printed l w n (byte ":") (byte "{" ∷ r) m refl,
+  );
+}
+
+mutual
+  unfolding write
+
+  writing : (v : Value) (r : List ℕ) → Sound v → Limited v → Writing planForm v (write v r) r
+  writing (leaf x) r s i = writes-scalar x r s
+  writing (ref n) r s i = record { rest = _; here = refl; text = λ l. named-printed l (n .spelling) (n .named) r i }
+  writing (branch h ps) r s i = (
+    writePairs ps (byte "}" ∷ r),
+    byte "}" ∷ r,
+    writes-head (h .container) (h .spelling) (count ps) (writePairs ps (byte "}" ∷ r)) (s .0) (i .0),
+    writing-in (h .container) [] ps (byte "}" ∷ r) (s .1) (i .1),
+    λ l. refl,
   )
-  key-printed array earlier before (stringKey q) r b f a d =
-      rw (
-        lt-ltb before (set .capacity) b,
-        quoted-printed (position set (writeKey (stringKey q) r)) (byte ";") q r f,
-        T-true (not (hasKey (stringKey q) earlier)) d,
-      )
-  key-printed (object t) earlier before (intKey x) r b f a d = absurd a
-  key-printed (object t) earlier before (stringKey q) r b f a d =
-      rw (
-        lt-ltb before (set .capacity) b,
-        quoted-printed (position set (writeKey (stringKey q) r)) (byte ";") q r f,
-        T-true (not (hasKey (stringKey q) earlier)) d,
-      )
 
-  pub scalar-printed : (d : ℕ) (seen : Seen) (before : ℕ) (x : Scalar) (r : List ℕ) → before < set .capacity → ScalarFits x
-      → readValue set (suc d) seen before (writeScalar x r) ≡ ok (leaf x, r)
-  unfolding readBody boolText
-  scalar-printed d seen before null r b f = rw (lt-ltb before (set .capacity) b)
-  scalar-printed d seen before (bool true) r b f = rw (lt-ltb before (set .capacity) b)
-  scalar-printed d seen before (bool false) r b f = rw (lt-ltb before (set .capacity) b)
-  scalar-printed d seen before (int x) r b f = rw (lt-ltb before (set .capacity) b, int-printed (position set (writeScalar (int x) r)) x r f)
-  scalar-printed d seen before (float t) r b f = rw (lt-ltb before (set .capacity) b, float-printed (position set (writeScalar (float t) r)) t r f)
-  scalar-printed d seen before (string q) r b f = rw (
-    lt-ltb before (set .capacity) b,
-    quoted-printed (position set (writeScalar (string q) r)) (byte ";") q r f,
+  writing-in : (c : Container) (earlier : List Key) (ps : Values) (r : List ℕ) → SoundIn c earlier ps → LimitedIn ps
+      → WritingIn planForm (isArray c) ps (writePairs ps r) r
+  writing-in c earlier none r s i = refl
+  writing-in c earlier (pair k v ps) r s i = (
+    write v (writePairs ps r),
+    writePairs ps r,
+    writes-key c k (write v (writePairs ps r)) (s .0) (s .1),
+    writing v (writePairs ps r) (s .3) (i .0),
+    writing-in c (k ∷ earlier) ps r (s .4) (i .1),
   )
 
-  ref-printed : (k : RefKind) (n : Reference) (d : ℕ) (seen : Seen) (before : ℕ) (r : List ℕ) → n .kind ≡ k → before < set .capacity → n .named ≤ numberLimit
-      → 1 ≤ n .named → n .named ≤ seen
-      → readValue set (suc d) seen before (tag (refKind k) ∷ byte ":" ∷ writeNumber (n .spelling) (n .named) (byte ";" ∷ r)) ≡ ok (ref n, r)
-  unfolding readBody
-  ref-printed objectRef n d seen before r e b f p q = rw (lt-ltb before (set .capacity) b, ← e, reference-printed _ seen n r f p q)
-  ref-printed variableRef n d seen before r e b f p q = rw (lt-ltb before (set .capacity) b, ← e, reference-printed _ seen n r f p q)
+mutual
+  fresh : (v : Value) → Sound v → Fresh v
+  fresh (leaf x) s = tt
+  fresh (ref r) s = tt
+  fresh (branch h ps) s = fresh-in (h .container) [] ps (s .1)
 
-  branch-printed : (inner : Inner) (h : Head) (ps : Values) (l : ℕ) (seen : Seen) (before : ℕ) (r : List ℕ) → count ps ≤ numberLimit
-      → readPairs set inner (isArray (h .container)) (count ps) [] (seeBranch seen) (suc before) (writePairs ps (byte "}" ∷ r)) ≡ ok (ps, byte "}" ∷ r)
-      → readBranch set inner (h .container) l seen before (writeNumber (h .spelling) (count ps) (byte ":" ∷ byte "{" ∷ writePairs ps (byte "}" ∷ r))) ≡ ok
-      (branch h ps, r)
-  unfolding readBranch
-  branch-printed inner h ps l seen before r f e = rw (number-printed l (h .spelling) (count ps) (byte ":") (byte "{" ∷ writePairs ps (byte "}" ∷ r)) f refl, e)
+  fresh-in : (c : Container) (earlier : List Key) (ps : Values) → SoundIn c earlier ps → FreshIn earlier ps
+  fresh-in c earlier none s = tt
+  fresh-in c earlier (pair k v ps) s = (s .2, fresh v (s .3), fresh-in c (k ∷ earlier) ps (s .4))
 
-  container-printed : (c : Container) (w : Spelling) (ps : Values) (d : ℕ) (seen : Seen) (before : ℕ) (r : List ℕ) → before < set .capacity → ContainerFits c
-      → count ps ≤ numberLimit
-      → readPairs set (readValue set d) (isArray c) (count ps) [] (seeBranch seen) (suc before) (writePairs ps (byte "}" ∷ r)) ≡ ok (ps, byte "}" ∷ r)
-      → readValue set (suc d) seen before (writeContainer c (writeNumber w (count ps) (byte ":" ∷ byte "{" ∷ writePairs ps (byte "}" ∷ r)))) ≡ ok
-      (branch (record { container = c; spelling = w }) ps, r)
-  unfolding readBody
-  container-printed array w ps d seen before r b f c e = rw (lt-ltb before (set .capacity) b)
-      (branch-printed (readValue set d) (record { container = array; spelling = w }) ps _ seen before r c e)
-  container-printed (object q) w ps d seen before r b f c e =
-      rw (lt-ltb before (set .capacity) b, quoted-printed _ (byte ":") q (writeNumber w (count ps) (byte ":" ∷ byte "{" ∷ writePairs ps (byte "}" ∷ r))) f)
-      (branch-printed (readValue set d) (record { container = object q; spelling = w }) ps _ seen before r c e)
+-- a key, and a scalar, wherever they stand
+module _ (terms : Terms) (source : List ℕ) where
+  pub key-printed : (c : Container) (earlier : List Key) (before : ℕ) (k : Key) (r : List ℕ) → before < terms .capacity → KeyFits k → T (allowed c k)
+      → T (not (hasKey k earlier)) → readKey (setting terms source) (isArray c) earlier before (writeKey k r) ≡ ok (k, r)
+  key-printed c earlier before k r b f a d =
+      key-accepted (setting terms source) (isArray c) earlier before k (writeKey k r) r b d (writes-key c k r f a)
 
-  one-level : (d : ℕ) (ps : Values) → ShallowIn (suc d - 1) ps → ShallowIn d ps
-  one-level d ps e = let i : suc d - 1 ≡ d = omega arith in rw i at e
-
-  mutual
-    unfolding write
-
-    value-printed : (v : Value) (d : ℕ) (seen : Seen) (before : ℕ) (r : List ℕ) → Sound v → Limited v → Backward seen v → Shallow d v
-        → before + nodes v ≤ set .capacity
-        → readValue set d seen before (write v r) ≡ ok (v, r)
-    value-printed (leaf x) zero seen before r s i b h m = absurd (omega arith)
-    value-printed (leaf x) (suc d) seen before r s i b h m = scalar-printed d seen before x r (omega arith) s
-    value-printed (ref n) zero seen before r s i b h m = absurd (omega arith)
-    value-printed (ref n) (suc d) seen before r s i b h m = ref-printed (n .kind) n d seen before r refl (omega arith) i (b .0) (b .1)
-    value-printed (branch h ps) zero seen before r s i b e m = absurd (omega arith)
-    value-printed (branch h ps) (suc d) seen before r s i b e m =
-        container-printed (h .container) (h .spelling) ps d seen before r (omega arith) (s .0) (i .0)
-        (pairs-printed ps d (h .container) [] (seeBranch seen) (suc before) (byte "}" ∷ r) (s .1) (i .1) b (one-level d ps (e .1)) (omega arith))
-
-    pairs-printed : (ps : Values) (d : ℕ) (c : Container) (earlier : List Key) (seen : Seen) (before : ℕ) (r : List ℕ)
-        → SoundIn c earlier ps → LimitedIn ps → BackwardIn seen ps → ShallowIn d ps → before + nodesIn ps ≤ set .capacity
-        → readPairs set (readValue set d) (isArray c) (count ps) earlier seen before (writePairs ps r) ≡ ok (ps, r)
-    pairs-printed none d c earlier seen before r s i b e m = refl
-    pairs-printed (pair k v ps) d c earlier seen before r s i b e m =
-        rw (
-          key-printed c earlier before k (write v (writePairs ps r)) (omega arith) (s .0) (s .1) (s .2),
-          value-printed v d seen (suc before) (writePairs ps r) (s .3) (i .0) (b .0) (e .0) (omega arith),
-          pairs-printed ps d c (k ∷ earlier) (see seen v) (suc (before + nodes v)) r (s .4) (i .1) (b .1) (e .1) (omega arith),
-        )
+  pub scalar-printed : (d : ℕ) (seen : Seen) (before : ℕ) (x : Scalar) (r : List ℕ) → before < terms .capacity → ScalarFits x
+      → readValue (setting terms source) (suc d) seen before (writeScalar x r) ≡ ok (leaf x, r)
+  scalar-printed d seen before x r b f =
+      value-accepted (setting terms source) plan-tagged (leaf x) (suc d) seen before (writeScalar x r) r (writes-scalar x r f) tt tt (omega arith) (omega arith)
 
 -- A PLAN THAT FITS IS ACCEPTED: its print is read as what was printed.
-pub read-print : (capacity : ℕ) (v : Value) → Fits capacity v → read capacity (print v) ≡ ok v
-unfolding read
-read-print capacity v f =
+pub read-print : (terms : Terms) (v : Value) → Fits terms v → read terms (print v) ≡ ok v
+read-print terms v f =
     let p = f .valid in
-    rw (
-      le-leb (length (print v)) sourceLimit (p .short),
-      value-printed (setting capacity (print v)) v depthLimit unseen 0 [] (p .sound) (p .limited) (p .backward) (p .shallow) (omega arith),
-    )
+    fits-accepted planForm terms (print v) v plan-tagged (record {
+      short = p .short;
+      written = writing v [] (p .sound) (p .limited);
+      fresh = fresh v (p .sound);
+      backward = p .backward;
+      shallow = p .shallow;
+      small = f .small;
+    })

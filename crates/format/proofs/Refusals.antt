@@ -11,13 +11,14 @@ use Rattle.decimal.proofs.Decide.{Test, passed, failed, test}
 use Rattle.format.specs.Bytes.{byte, bytes, isEmpty, sameBytes}
 use Rattle.format.specs.Kind.{Kind, kinds, tag, keyKinds}
 use Rattle.format.specs.Tree.{nodes}
-use Rattle.format.specs.Syntax.{array, object, Key, Container, RefKind, objectRef, variableRef}
+use Rattle.format.specs.Syntax.{Key, RefKind, objectRef, variableRef}
 use Rattle.format.specs.Keys.{hasKey}
-use Rattle.format.specs.Limits.{numberLimit, sourceLimit, depthLimit, integerLimit, signOf, isFloat, Seen, unseen, seeBranch, see}
+use Rattle.format.specs.Limits.{numberLimit, sourceLimit, depthLimit, integerLimit, Terms, signOf, isFloat, Seen, unseen, seeBranch, see}
 use Rattle.format.specs.Answer.{Answer, ok, refused, _>>=_, require}
 use Rattle.format.specs.Reading.{RefusalRow}
-use Rattle.format.specs.Read.{kindOf, tagOf, expect, until, digits, number, intText, quotedText, boolText, floatText, referenceText, Setting, setting}
-use Rattle.format.specs.Read.{position, isArray, keyText, Inner, readKey, readPairs, readBranch, readBody, readValue, read}
+use Rattle.format.specs.Read.{expect, until, digits, number, boolText, intText, floatText, quotedText, scalarText, countText, headText, namedText}
+use Rattle.format.specs.Read.{keyText, Form, planForm, kindOf, tagOf, Setting, settingIn, position, isArray, Inner, readKey, readPairs, readBranch}
+use Rattle.format.specs.Read.{readReference, readScalar, readBody, readValue, readIn, read}
 
 module _ (size : ℕ) where
   abbrev pub Proper : {A : Type 0} → Answer A → Type 0
@@ -52,11 +53,11 @@ module _ (size : ℕ) where
     next : {B : Type 0} (ws s : List ℕ) (f : List ℕ → Answer B) → ((x : List ℕ) → Proper (f x)) → Proper (expect l ws s >>= f)
     next ws s f g = bind (expect l ws s) f (expected ws s) g
 
-    tagged : (ks : List Kind) (n b : ℕ) → 2 ≤ n → n ≤ 10 → Proper (kindOf ks n l b)
-    tagged [] n b lo hi = row n lo hi
-    tagged (j ∷ js) n b lo hi = go (test (eqb (tag j) b)) (tagged js n b lo hi)
+    tagged : (first : Kind → ℕ) (ks : List Kind) (n b : ℕ) → 2 ≤ n → n ≤ 10 → Proper (kindOf first ks n l b)
+    tagged first [] n b lo hi = row n lo hi
+    tagged first (j ∷ js) n b lo hi = go (test (eqb (first j) b)) (tagged first js n b lo hi)
       where
-        go : Test (eqb (tag j) b) → Proper (kindOf js n l b) → Proper (kindOf (j ∷ js) n l b)
+        go : Test (eqb (first j) b) → Proper (kindOf first js n l b) → Proper (kindOf first (j ∷ js) n l b)
         go (passed t) r = rw (t, kindOf) tt
         go (failed t) r = rw (t, kindOf) r
 
@@ -100,24 +101,54 @@ module _ (size : ℕ) where
         ask (isFloat (until (byte ";") a)) 2 l _ (row 2 (omega arith) (omega arith)) (λ b.
         bind (expect l (bytes ";") (drop (length (until (byte ";") a)) a)) _ (expected (bytes ";") (drop (length (until (byte ";") a)) a)) (λ c. tt)))
 
-    reference-proper : (k : RefKind) (seen : Seen) (s : List ℕ) → Proper (referenceText k l seen s)
-    unfolding referenceText
-    reference-proper k seen s =
+    scalar-proper : (k : Kind) (s : List ℕ) → Proper (scalarText k l s)
+    unfolding scalarText
+    scalar-proper Kind.null s = next (bytes ";") s _ (λ a. tt)
+    scalar-proper Kind.bool s = bind (boolText l s) _ (bool-proper s) (λ a. tt)
+    scalar-proper Kind.int s = bind (intText l s) _ (int-proper s) (λ a. tt)
+    scalar-proper Kind.float s = bind (floatText l s) _ (float-proper s) (λ a. tt)
+    scalar-proper Kind.string s = bind (quotedText l (bytes "\";") s) _ (quoted-proper (bytes "\";") s) (λ a. tt)
+    scalar-proper Kind.array s = row 3 (omega arith) (omega arith)
+    scalar-proper Kind.object s = row 3 (omega arith) (omega arith)
+    scalar-proper Kind.objectReference s = row 3 (omega arith) (omega arith)
+    scalar-proper Kind.variableReference s = row 3 (omega arith) (omega arith)
+
+    count-proper : (s : List ℕ) → Proper (countText l s)
+    unfolding countText
+    count-proper s = bind (number l s) _ (number-proper s) (λ a. next (bytes ":{") (a .1) _ (λ b. tt))
+
+    head-proper : (ofArray : Bool) (s : List ℕ) → Proper (headText ofArray l s)
+    unfolding headText
+    head-proper true s = next (bytes ":") s _ (λ a. bind (countText l a) _ (count-proper a) (λ b. tt))
+    head-proper false s = bind (quotedText l (bytes "\":") s) _ (quoted-proper (bytes "\":") s) (λ a. bind (countText l (a .1)) _ (count-proper (a .1)) (λ b. tt))
+
+    named-proper : (s : List ℕ) → Proper (namedText l s)
+    unfolding namedText
+    named-proper s =
         next (bytes ":") s _ (λ a.
         bind (number l a) _ (number-proper a) (λ b.
-        next (bytes ";") (b .1) _ (λ c.
-        ask (ltb 0 (b .0 .1) && leb (b .0 .1) seen) 6 l _ (row 6 (omega arith) (omega arith)) (λ d. tt))))
+        next (bytes ";") (b .1) _ (λ c. tt)))
 
-    key-proper : (k : Kind) (s : List ℕ) → Proper (keyText k l s)
+    key-proper : (ofArray : Bool) (k : Kind) (s : List ℕ) → Proper (keyText ofArray k l s)
     unfolding keyText
-    key-proper k s = go (test (eqb (tag k) (tag Kind.int)))
+    key-proper ofArray k s = go (test (eqb (tag k) (tag Kind.int)))
       where
-        go : Test (eqb (tag k) (tag Kind.int)) → Proper (keyText k l s)
+        go : Test (eqb (tag k) (tag Kind.int)) → Proper (keyText ofArray k l s)
         go (passed t) = rw (t, Proper) (bind (intText l s) _ (int-proper s) (λ a. tt))
         go (failed t) = rw (t, Proper) (bind (quotedText l (bytes "\";") s) _ (quoted-proper (bytes "\";") s) (λ a. tt))
 
+-- the texts of a form are refused with 2 to 10, at their tag
+pub record ProperTexts (form : Form) : Type 0 where
+  pub scalar : (size l : ℕ) → l < size → (k : Kind) (s : List ℕ) → Proper size (form .scalarText k l s)
+  pub key : (size l : ℕ) → l < size → (ofArray : Bool) (k : Kind) (s : List ℕ) → Proper size (form .keyText ofArray k l s)
+  pub head : (size l : ℕ) → l < size → (ofArray : Bool) (s : List ℕ) → Proper size (form .headText ofArray l s)
+  pub named : (size l : ℕ) → l < size → (s : List ℕ) → Proper size (form .namedText l s)
+
+plan-proper : ProperTexts planForm
+plan-proper = record { scalar = scalar-proper; key = key-proper; head = head-proper; named = named-proper }
+
 -- ---- values and pairs
-module _ (set : Setting) where
+module _ (set : Setting) (texts : ProperTexts (set .form)) where
   abbrev Ok : {A : Type 0} → Answer A → Type 0
   Ok a = Proper (set .size) a
 
@@ -126,16 +157,19 @@ module _ (set : Setting) where
     here : (b : ℕ) (s : List ℕ) → position set (b ∷ s) < set .size
     here b s = omega arith
 
+    tag-proper : (ks : List Kind) (n b : ℕ) (s : List ℕ) → 2 ≤ n → n ≤ 10 → Ok (tagOf (set .form .first) ks n (position set (b ∷ s)) (b ∷ s))
+    tag-proper ks n b s lo hi =
+        let l : ℕ = position set (b ∷ s) in
+        bind (set .size) (kindOf (set .form .first) ks n l b) _ (tagged (set .size) l (here b s) (set .form .first) ks n b lo hi) (λ k. tt)
+
     readKey-proper : (ofArray : Bool) (earlier : List Key) (before : ℕ) (s : List ℕ) → Ok (readKey set ofArray earlier before s)
     unfolding readKey
     readKey-proper ofArray earlier before [] = two (set .size) (position set []) (omega arith)
     readKey-proper ofArray earlier before (b ∷ s) =
         let l : ℕ = position set (b ∷ s) in
-        bind (set .size) (tagOf (keyKinds ofArray) 4 l (b ∷ s)) _
-        (bind (set .size) (kindOf (keyKinds ofArray) 4 l b) _ (tagged (set .size) l (here b s) (keyKinds ofArray) 4 b (omega arith) (omega arith))
-        (λ k. tt)) (λ k.
-        ask (set .size) (ltb before (set .capacity)) 7 l _ (row (set .size) l (here b s) 7 (omega arith) (omega arith)) (λ u.
-        bind (set .size) (keyText (k .0) l (k .1)) _ (key-proper (set .size) l (here b s) (k .0) (k .1)) (λ x.
+        bind (set .size) (tagOf (set .form .first) (keyKinds ofArray) 4 l (b ∷ s)) _ (tag-proper (keyKinds ofArray) 4 b s (omega arith) (omega arith)) (λ k.
+        ask (set .size) (ltb before (set .terms .capacity)) 7 l _ (row (set .size) l (here b s) 7 (omega arith) (omega arith)) (λ u.
+        bind (set .size) (set .form .keyText ofArray (k .0) l (k .1)) _ (texts .key (set .size) l (here b s) ofArray (k .0) (k .1)) (λ x.
         ask (set .size) (not (hasKey (x .0) earlier)) 9 l _ (row (set .size) l (here b s) 9 (omega arith) (omega arith)) (λ w. tt))))
 
     module _ (inner : Inner) (deeper : (seen : Seen) (before : ℕ) (s : List ℕ) → Ok (inner seen before s)) where
@@ -148,44 +182,50 @@ module _ (set : Setting) where
           bind (set .size) (readPairs set inner ofArray n (k .0 ∷ earlier) (see seen (v .0)) (suc (before + nodes (v .0))) (v .1)) _
           (pairs-proper ofArray n (k .0 ∷ earlier) (see seen (v .0)) (suc (before + nodes (v .0))) (v .1)) (λ ps. tt)))
 
-      branch-proper : (c : Container) (l : ℕ) (h : l < set .size) (seen : Seen) (before : ℕ) (s : List ℕ) → Ok (readBranch set inner c l seen before s)
-      unfolding readBranch
-      branch-proper c l h seen before s =
-          bind (set .size) (number l s) _ (number-proper (set .size) l h s) (λ n.
-          next (set .size) l h (bytes ":{") (n .1) _ (λ s₂.
-          bind (set .size) (readPairs set inner (isArray c) (n .0 .1) [] (seeBranch seen) (suc before) s₂) _
-          (pairs-proper (isArray c) (n .0 .1) [] (seeBranch seen) (suc before) s₂) (λ ps.
-          next (set .size) l h (bytes "}") (ps .1) _ (λ s₄. tt))))
+      -- behind the tag of a value
+      module _ (l : ℕ) (h : l < set .size) where
+        branch-proper : (ofArray : Bool) (seen : Seen) (before : ℕ) (s : List ℕ) → Ok (readBranch set inner ofArray l seen before s)
+        unfolding readBranch
+        branch-proper ofArray seen before s =
+            bind (set .size) (set .form .headText ofArray l s) _ (texts .head (set .size) l h ofArray s) (λ c.
+            bind (set .size) (readPairs set inner (isArray (c .0 .0)) (c .0 .1 .1) [] (seeBranch seen) (suc before) (c .1)) _
+            (pairs-proper (isArray (c .0 .0)) (c .0 .1 .1) [] (seeBranch seen) (suc before) (c .1)) (λ ps.
+            next (set .size) l h (set .form .close) (ps .1) _ (λ s₄. tt)))
 
-      body-proper : (k : Kind) (l : ℕ) (h : l < set .size) (seen : Seen) (before : ℕ) (s : List ℕ) → Ok (readBody set inner k l seen before s)
-      unfolding readBody
-      body-proper Kind.null l h seen before s = next (set .size) l h (bytes ";") s _ (λ a. tt)
-      body-proper Kind.bool l h seen before s = bind (set .size) (boolText l s) _ (bool-proper (set .size) l h s) (λ a. tt)
-      body-proper Kind.int l h seen before s = bind (set .size) (intText l s) _ (int-proper (set .size) l h s) (λ a. tt)
-      body-proper Kind.float l h seen before s = bind (set .size) (floatText l s) _ (float-proper (set .size) l h s) (λ a. tt)
-      body-proper Kind.string l h seen before s = bind (set .size) (quotedText l (bytes "\";") s) _ (quoted-proper (set .size) l h (bytes "\";") s) (λ a. tt)
-      body-proper Kind.array l h seen before s = next (set .size) l h (bytes ":") s _ (λ a. branch-proper array l h seen before a)
-      body-proper Kind.object l h seen before s = bind (set .size) (quotedText l (bytes "\":") s) _ (quoted-proper (set .size) l h (bytes "\":") s)
-          (λ a. branch-proper (object (a .0)) l h seen before (a .1))
-      body-proper Kind.objectReference l h seen before s = bind (set .size) (referenceText objectRef l seen s) _
-          (reference-proper (set .size) l h objectRef seen s) (λ a. tt)
-      body-proper Kind.variableReference l h seen before s = bind (set .size) (referenceText variableRef l seen s) _
-          (reference-proper (set .size) l h variableRef seen s) (λ a. tt)
+        reference-proper : (k : RefKind) (seen : Seen) (s : List ℕ) → Ok (readReference set k l seen s)
+        unfolding readReference
+        reference-proper k seen s =
+            bind (set .size) (set .form .namedText l s) _ (texts .named (set .size) l h s) (λ n.
+            ask (set .size) (ltb 0 (n .0 .1) && leb (n .0 .1) seen) 6 l _ (row (set .size) l h 6 (omega arith) (omega arith)) (λ d. tt))
+
+        readScalar-proper : (k : Kind) (s : List ℕ) → Ok (readScalar set k l s)
+        unfolding readScalar
+        readScalar-proper k s = bind (set .size) (set .form .scalarText k l s) _ (texts .scalar (set .size) l h k s) (λ x. tt)
+
+        body-proper : (k : Kind) (seen : Seen) (before : ℕ) (s : List ℕ) → Ok (readBody set inner k l seen before s)
+        unfolding readBody
+        body-proper Kind.null seen before s = readScalar-proper Kind.null s
+        body-proper Kind.bool seen before s = readScalar-proper Kind.bool s
+        body-proper Kind.int seen before s = readScalar-proper Kind.int s
+        body-proper Kind.float seen before s = readScalar-proper Kind.float s
+        body-proper Kind.string seen before s = readScalar-proper Kind.string s
+        body-proper Kind.array seen before s = branch-proper true seen before s
+        body-proper Kind.object seen before s = branch-proper false seen before s
+        body-proper Kind.objectReference seen before s = reference-proper objectRef seen s
+        body-proper Kind.variableReference seen before s = reference-proper variableRef seen s
 
     value-proper : (d : ℕ) (seen : Seen) (before : ℕ) (s : List ℕ) → Ok (readValue set d seen before s)
     value-proper zero seen before [] = two (set .size) (position set []) (omega arith)
     value-proper (suc d) seen before [] = two (set .size) (position set []) (omega arith)
     value-proper zero seen before (b ∷ s) =
         let l : ℕ = position set (b ∷ s) in
-        bind (set .size) (tagOf kinds 3 l (b ∷ s)) _
-        (bind (set .size) (kindOf kinds 3 l b) _ (tagged (set .size) l (here b s) kinds 3 b (omega arith) (omega arith)) (λ k. tt))
+        bind (set .size) (tagOf (set .form .first) kinds 3 l (b ∷ s)) _ (tag-proper kinds 3 b s (omega arith) (omega arith))
         (λ k. row (set .size) l (here b s) 8 (omega arith) (omega arith))
     value-proper (suc d) seen before (b ∷ s) =
         let l : ℕ = position set (b ∷ s) in
-        bind (set .size) (tagOf kinds 3 l (b ∷ s)) _
-        (bind (set .size) (kindOf kinds 3 l b) _ (tagged (set .size) l (here b s) kinds 3 b (omega arith) (omega arith)) (λ k. tt)) (λ k.
-        ask (set .size) (ltb before (set .capacity)) 7 l _ (row (set .size) l (here b s) 7 (omega arith) (omega arith)) (λ u.
-        body-proper (readValue set d) (λ x y z. value-proper d x y z) (k .0) l (here b s) seen before (k .1)))
+        bind (set .size) (tagOf (set .form .first) kinds 3 l (b ∷ s)) _ (tag-proper kinds 3 b s (omega arith) (omega arith)) (λ k.
+        ask (set .size) (ltb before (set .terms .capacity)) 7 l _ (row (set .size) l (here b s) 7 (omega arith) (omega arith)) (λ u.
+        body-proper (readValue set d) (λ x y z. value-proper d x y z) l (here b s) (k .0) seen before (k .1)))
 
 -- the first byte behind the plan
 behind : {B : Type 0} (set : Setting) (s : List ℕ) (f : Unit {0} → Answer B) → 0 < set .size → ((x : Unit {0}) → Proper (set .size) (f x))
@@ -196,15 +236,19 @@ behind set (b ∷ s) f h g = row (set .size) (position set (b ∷ s)) (omega ari
 one : (size : ℕ) → RefusalRow size 1 0
 one size = record { least = omega arith; most = omega arith; start = λ e. refl; inside = omega arith; byte = λ e. omega arith }
 
-read-proper : (capacity : ℕ) (source : List ℕ) → Proper (length source) (read capacity source)
-unfolding read
-read-proper capacity [] = two 0 0 (omega arith)
-read-proper capacity (b ∷ s) =
-    let set : Setting = setting capacity (b ∷ s) in
+read-proper : (form : Form) → ProperTexts form → (terms : Terms) (source : List ℕ) → Proper (length source) (readIn form terms source)
+unfolding readIn
+read-proper form texts terms [] = two 0 0 (omega arith)
+read-proper form texts terms (b ∷ s) =
+    let set : Setting = settingIn form terms (b ∷ s) in
     ask (set .size) (leb (set .size) sourceLimit) 1 0 _ (one (set .size)) (λ u.
-    bind (set .size) (readValue set depthLimit unseen 0 (b ∷ s)) _ (value-proper set (omega arith) depthLimit unseen 0 (b ∷ s)) (λ v.
+    bind (set .size) (readValue set depthLimit unseen 0 (b ∷ s)) _ (value-proper set texts (omega arith) depthLimit unseen 0 (b ∷ s)) (λ v.
     behind set (v .1) _ (omega arith) (λ w. tt)))
 
--- "A refusal returns its number and a position": of reading, 1 to 10, and where the table's last column may point
-pub refusal-proper : (capacity : ℕ) (source : List ℕ) (n p : ℕ) → read capacity source ≡ refused n p → RefusalRow (length source) n p
-refusal-proper capacity source n p e = subst (Proper (length source)) e (read-proper capacity source)
+-- "A refusal returns its number and a position": of reading in any form, 1 to 10, and where the table's last column may point
+pub refusal-proper-in : (form : Form) → ProperTexts form → (terms : Terms) (source : List ℕ) (n p : ℕ) → readIn form terms source ≡ refused n p
+    → RefusalRow (length source) n p
+refusal-proper-in form texts terms source n p e = subst (Proper (length source)) e (read-proper form texts terms source)
+
+pub refusal-proper : (terms : Terms) (source : List ℕ) (n p : ℕ) → read terms source ≡ refused n p → RefusalRow (length source) n p
+refusal-proper terms source n p e = refusal-proper-in planForm plan-proper terms source n p e

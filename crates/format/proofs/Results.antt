@@ -6,6 +6,7 @@ use native.Mathlib.Omega.{arith}
 use lib.ListN.{length, drop, replicate, length-append, length-drop, length-replicate}
 use Rattle.format.specs.Tree.{nodes, ordinals}
 use Rattle.format.specs.Syntax.{Value, own}
+use Rattle.format.specs.Limits.{Terms}
 use Rattle.format.specs.Answer.{Answer, ok, refused}
 use Rattle.format.specs.Read.{read}
 use Rattle.format.specs.Table.{Node, width, flat, targetOf, tableOf}
@@ -26,17 +27,18 @@ flat-length (n ∷ ns) = omega (arith, flat-length ns)
 -- ---- what stands in the table afterwards
 
 -- "Words after the last node keep what they held": the words of the nodes, then what the table held
-pub after-accepted : (source t : List ℕ) (v : Value) → read (capacityOf t) source ≡ ok v → tableAfter source t ≡ flat (tableOf v) ++ drop (nodes v * width) t
+pub after-accepted : (terms : Terms) (source t : List ℕ) (v : Value) → read terms source ≡ ok v
+    → tableAfter terms source t ≡ flat (tableOf v) ++ drop (nodes v * width) t
 unfolding tableAfter
-after-accepted source t v e = rw (
+after-accepted terms source t v e = rw (
   e,
   filled,
 ) (ap (λ (n : ℕ). flat (tableOf v) ++ drop n t) (flat-length (tableOf v) ∙ ap (λ (n : ℕ). n * width) (tableOf-length v)))
 
 -- "A refusal … makes every word of the table zero"
-pub after-refused : (source t : List ℕ) (n p : ℕ) → read (capacityOf t) source ≡ refused n p → tableAfter source t ≡ replicate (length t) 0
+pub after-refused : (terms : Terms) (source t : List ℕ) (n p : ℕ) → read terms source ≡ refused n p → tableAfter terms source t ≡ replicate (length t) 0
 unfolding tableAfter
-after-refused source t n p e = rw (e, filled)
+after-refused terms source t n p e = rw (e, filled)
 
 -- ---- the counts
 
@@ -45,10 +47,10 @@ up-length n zero = refl
 up-length n (suc c) = ap suc (up-length (suc n) c)
 
 -- "Reading returns the count of nodes and of numbers taken."
-pub answer-counts : (capacity : ℕ) (source : List ℕ) (v : Value) → read capacity source ≡ ok v
-    → answer capacity source ≡ ok (record { nodes = length (tableOf v); ordinals = length (ordinalsOf (tableOf v)) })
+pub answer-counts : (terms : Terms) (source : List ℕ) (v : Value) → read terms source ≡ ok v
+    → answer terms source ≡ ok (record { nodes = length (tableOf v); ordinals = length (ordinalsOf (tableOf v)) })
 unfolding answer
-answer-counts capacity source v e =
+answer-counts terms source v e =
     rw e (ap₂ (λ (a b : ℕ). ok (record { nodes = a; ordinals = b })) (sym (tableOf-length v))
     (sym (ap length (ordinals-in-order v) ∙ up-length 1 (ordinals own v))))
 
@@ -56,13 +58,14 @@ answer-counts capacity source v e =
 over-length : (ws t : List ℕ) → length ws ≤ length t → length (over ws t) ≡ length t
 over-length ws t h = length-append ws (drop (length ws) t) ∙ omega (arith, length-drop (length ws) t)
 
-filled-length : (source t : List ℕ) (a : Answer Value) → read (capacityOf t) source ≡ a → length (filled a t) ≡ length t
-filled-length source t (ok v) e =
-    let small : nodes v ≤ capacityOf t = read-ok (capacityOf t) source v e .fits .small in
+filled-length : (terms : Terms) (source t : List ℕ) → terms .capacity ≤ capacityOf t → (a : Answer Value) → read terms source ≡ a
+    → length (filled a t) ≡ length t
+filled-length terms source t r (ok v) e =
+    let small : nodes v ≤ terms .capacity = read-ok terms source v e .fits .small in
     over-length (flat (tableOf v)) t (omega (arith, flat-length (tableOf v), tableOf-length v))
-filled-length source t (refused n p) e = length-replicate (length t) 0
+filled-length terms source t r (refused n p) e = length-replicate (length t) 0
 
 -- a lent slice cannot grow: the nodes of an accepted plan have room in it
-pub after-length : (source t : List ℕ) → length (tableAfter source t) ≡ length t
+pub after-length : (terms : Terms) (source t : List ℕ) → terms .capacity ≤ capacityOf t → length (tableAfter terms source t) ≡ length t
 unfolding tableAfter
-after-length source t = filled-length source t (read (capacityOf t) source) refl
+after-length terms source t r = filled-length terms source t r (read terms source) refl

@@ -1,5 +1,5 @@
 -- A text that reading accepts is the print of what was read, and in range. Assumes nothing.
-use mathlib.Core.Path.{_≡_, sym, ap, ap₂, _∙_, subst}
+use mathlib.Core.Path.{_≡_, refl, sym, ap, ap₂, _∙_, subst}
 use mathlib.Core.Logic.{⊎-elim}
 use mathlib.Core.List.{List, [], _∷_, _++_, List·Memᴰ, List·Memᴰ·head, List·Memᴰ·tail, List·Memᴰ·cases-cons, List·Memᴰ·eq-of-singleton}
 use mathlib.Core.Bool.{true, false, Bool, _&&_, _||_}
@@ -9,19 +9,20 @@ use lib.Dec.{T, ltb, leb, eqb, ltb→lt, leb→le, eqb→eq}
 use lib.ListN.{length, take, drop, take-append-drop}
 use lib.Seq.{length-take-le}
 use Rattle.decimal.specs.Digits.{digitsOf, afterDigits, value, decimal, spelled}
-use Rattle.decimal.proofs.Decide.{Test, passed, failed, test, T-of, and-left, and-right}
+use Rattle.decimal.proofs.Decide.{Test, passed, failed, test, T-of}
 use Rattle.decimal.proofs.Numerals.{digits-are, digits-split, spelling, spelled-length}
 use Rattle.format.specs.Bytes.{byte, bytes, sameBytes}
 use Rattle.format.specs.Kind.{Kind, tag, keyKinds}
-use Rattle.format.specs.Tree.{ref}
-use Rattle.format.specs.Syntax.{intKey, stringKey, int, string, array, object, Spelling, Sign, Literal, Quoted, Key, Container, RefKind, refKind}
-use Rattle.format.specs.Syntax.{Reference, writeNumber, writeSign, writeQuoted, writeInt, writeKey, bit, write}
-use Rattle.format.specs.Limits.{numberLimit, integerLimit, signOf, isFloat, Seen}
-use Rattle.format.specs.Fits.{IntFits, QuotedFits, KeyFits, allowed}
+use Rattle.format.specs.Syntax.{intKey, stringKey, null, bool, int, float, string, array, object, Spelling, Sign, Literal, Quoted, Key, Scalar, Container}
+use Rattle.format.specs.Syntax.{writeNumber, writeSign, writeQuoted, writeInt, writeKey, bit, writeScalar, writeContainer}
+use Rattle.format.specs.Limits.{numberLimit, integerLimit, signOf, isFloat}
+use Rattle.format.specs.Fits.{IntFits, QuotedFits, KeyFits, ScalarFits, ContainerFits, allowed}
 use Rattle.format.specs.Answer.{ok, require}
-use Rattle.format.specs.Read.{kindOf, tagOf, expect, digits, number, intText, quotedText, boolText, until, floatText, referenceText, isArray, keyText}
+use Rattle.format.specs.Read.{kindOf, tagOf, expect, digits, number, intText, quotedText, boolText, until, floatText, scalarText, countText, headText}
+use Rattle.format.specs.Read.{namedText, keyText, isArray}
 use Rattle.format.proofs.Answers.{ok-same, not-both, bind-ok, require-ok}
 use Rattle.format.proofs.Floats.{sign-split, until-split}
+use Rattle.format.proofs.Forms.{containerKind}
 
 -- ---- tags
 -- a kind that was chosen is the byte's, and among those offered
@@ -29,11 +30,11 @@ pub record Chosen (js : List Kind) (b : ℕ) (k : Kind) : Type 0 where
   pub tagged : b ≡ tag k
   pub among : List·Memᴰ k js
 
-kind-ok : (js : List Kind) (code at b : ℕ) (k : Kind) → kindOf js code at b ≡ ok k → Chosen js b k
+kind-ok : (js : List Kind) (code at b : ℕ) (k : Kind) → kindOf tag js code at b ≡ ok k → Chosen js b k
 kind-ok [] code at b k e = absurd (not-both e)
 kind-ok (j ∷ js) code at b k e = go (test (eqb (tag j) b)) (λ d. kind-ok js code at b k d)
   where
-    go : Test (eqb (tag j) b) → (kindOf js code at b ≡ ok k → Chosen js b k) → Chosen (j ∷ js) b k
+    go : Test (eqb (tag j) b) → (kindOf tag js code at b ≡ ok k → Chosen js b k) → Chosen (j ∷ js) b k
     go (passed t) r =
         let i : j ≡ k = ok-same (rw (t, kindOf) at e) in
         record { tagged = sym (eqb→eq (tag j) b (T-of t)) ∙ ap tag i; among = List·Memᴰ·head (sym i) }
@@ -45,10 +46,10 @@ pub record GotTag (js : List Kind) (s : List ℕ) (q : Kind × List ℕ) : Type 
   pub text : s ≡ tag (q .0) ∷ q .1
   pub among : List·Memᴰ (q .0) js
 
-pub tag-ok : (js : List Kind) (code at : ℕ) (s : List ℕ) (q : Kind × List ℕ) → tagOf js code at s ≡ ok q → GotTag js s q
+pub tag-ok : (js : List Kind) (code at : ℕ) (s : List ℕ) (q : Kind × List ℕ) → tagOf tag js code at s ≡ ok q → GotTag js s q
 tag-ok js code at [] q e = absurd (not-both e)
 tag-ok js code at (b ∷ s) q e =
-    let a = bind-ok (kindOf js code at b) _ q e in
+    let a = bind-ok (kindOf tag js code at b) _ q e in
     let c = kind-ok js code at b (a .0) (a .1) in
     subst (GotTag js (b ∷ s)) (ok-same (a .2)) (record { text = ap (λ (x : ℕ). x ∷ s) (c .tagged); among = c .among })
 
@@ -183,28 +184,98 @@ float-ok l s q e =
       fits = require-ok (isFloat t) 2 l (b .0) (b .1);
     })
 
-pub record GotReference (k : RefKind) (seen : Seen) (s : List ℕ) (q : Reference × List ℕ) : Type 0 where
-  pub text : tag (refKind k) ∷ s ≡ write (ref (q .0)) (q .1)
-  pub fits : q .0 .named ≤ numberLimit
-  pub least : 1 ≤ q .0 .named
-  pub most : q .0 .named ≤ seen
+pub record GotScalar (k : Kind) (s : List ℕ) (q : Scalar × List ℕ) : Type 0 where
+  pub text : tag k ∷ s ≡ writeScalar (q .0) (q .1)
+  pub fits : ScalarFits (q .0)
 
-pub reference-ok : (k : RefKind) (l : ℕ) (seen : Seen) (s : List ℕ) (q : Reference × List ℕ) → referenceText k l seen s ≡ ok q → GotReference k seen s q
-unfolding referenceText write
-reference-ok k l seen s q e =
+pub scalarText-ok : (k : Kind) (l : ℕ) (s : List ℕ) (q : Scalar × List ℕ) → scalarText k l s ≡ ok q → GotScalar k s q
+unfolding scalarText
+scalarText-ok Kind.null l s q e =
+    let a = bind-ok (expect l (bytes ";") s) _ q e in
+    subst (GotScalar Kind.null s) (ok-same (a .2)) (record { text = ap {B = List ℕ} (λ x. 78 ∷ x) (expect-ok l (bytes ";") s (a .0) (a .1)); fits = tt })
+scalarText-ok Kind.bool l s q e =
+    let a = bind-ok (boolText l s) _ q e in
+    subst (GotScalar Kind.bool s) (ok-same (a .2)) (record { text = ap {B = List ℕ} (λ x. 98 ∷ x) (bool-ok l s (a .0) (a .1)); fits = tt })
+scalarText-ok Kind.int l s q e =
+    let a = bind-ok (intText l s) _ q e in
+    let g = int-ok l s (a .0) (a .1) in
+    subst (GotScalar Kind.int s) (ok-same (a .2)) (record { text = g .text; fits = g .fits })
+scalarText-ok Kind.float l s q e =
+    let a = bind-ok (floatText l s) _ q e in
+    let g = float-ok l s (a .0) (a .1) in
+    subst (GotScalar Kind.float s) (ok-same (a .2)) (record { text = ap {B = List ℕ} (λ x. 100 ∷ x) (g .text); fits = g .fits })
+scalarText-ok Kind.string l s q e =
+    let a = bind-ok (quotedText l (bytes "\";") s) _ q e in
+    let g = quoted-ok l (byte ";") s (a .0) (a .1) in
+    subst (GotScalar Kind.string s) (ok-same (a .2)) (record { text = ap {B = List ℕ} (λ x. 115 ∷ x) (g .text); fits = g .fits })
+scalarText-ok Kind.array l s q e = absurd (not-both e)
+scalarText-ok Kind.object l s q e = absurd (not-both e)
+scalarText-ok Kind.objectReference l s q e = absurd (not-both e)
+scalarText-ok Kind.variableReference l s q e = absurd (not-both e)
+
+-- a count of pairs up to the opening brace
+pub record GotCount (s : List ℕ) (q : (Spelling × ℕ) × List ℕ) : Type 0 where
+  pub text : s ≡ writeNumber (q .0 .0) (q .0 .1) (byte ":" ∷ byte "{" ∷ q .1)
+  pub fits : q .0 .1 ≤ numberLimit
+
+pub count-ok : (l : ℕ) (s : List ℕ) (q : (Spelling × ℕ) × List ℕ) → countText l s ≡ ok q → GotCount s q
+unfolding countText
+count-ok l s q e =
+    let a = bind-ok (number l s) _ q e in
+    let b = bind-ok (expect l (bytes ":{") (a .0 .1)) _ q (a .2) in
+    let n = number-ok l s (a .0) (a .1) in
+    subst (GotCount s) (ok-same (b .2)) (record {
+      text = n .text ∙ ap (writeNumber (a .0 .0 .0) (a .0 .0 .1)) (expect-ok l (bytes ":{") (a .0 .1) (b .0) (b .1));
+      fits = n .fits;
+    })
+
+-- a container's head, from its tag up to its first pair
+pub record GotHead (ofArray : Bool) (s : List ℕ) (q : (Container × (Spelling × ℕ)) × List ℕ) : Type 0 where
+  pub text : tag (containerKind ofArray) ∷ s ≡ writeContainer (q .0 .0) (writeNumber (q .0 .1 .0) (q .0 .1 .1) (byte ":" ∷ byte "{" ∷ q .1))
+  pub container : isArray (q .0 .0) ≡ ofArray
+  pub fits : ContainerFits (q .0 .0)
+  pub few : q .0 .1 .1 ≤ numberLimit
+
+pub head-ok : (ofArray : Bool) (l : ℕ) (s : List ℕ) (q : (Container × (Spelling × ℕ)) × List ℕ) → headText ofArray l s ≡ ok q → GotHead ofArray s q
+unfolding headText
+head-ok true l s q e =
+    let a = bind-ok (expect l (bytes ":") s) _ q e in
+    let b = bind-ok (countText l (a .0)) _ q (a .2) in
+    let n = count-ok l (a .0) (b .0) (b .1) in
+    subst (GotHead true s) (ok-same (b .2)) (record {
+      text = ap {B = List ℕ} (λ x. 97 ∷ x) (expect-ok l (bytes ":") s (a .0) (a .1) ∙ ap {B = List ℕ} (λ x. 58 ∷ x) (n .text));
+      container = refl;
+      fits = tt;
+      few = n .fits;
+    })
+head-ok false l s q e =
+    let a = bind-ok (quotedText l (bytes "\":") s) _ q e in
+    let b = bind-ok (countText l (a .0 .1)) _ q (a .2) in
+    let g = quoted-ok l (byte ":") s (a .0) (a .1) in
+    let n = count-ok l (a .0 .1) (b .0) (b .1) in
+    subst (GotHead false s) (ok-same (b .2)) (record {
+      text = ap {B = List ℕ} (λ x. 79 ∷ x) (g .text ∙ ap (λ (x : List ℕ). 58 ∷ writeQuoted (a .0 .0) (58 ∷ x)) (n .text));
+      container = refl;
+      fits = g .fits;
+      few = n .fits;
+    })
+
+-- the ordinal that a reference names, behind its tag
+pub record GotNamed (s : List ℕ) (q : (Spelling × ℕ) × List ℕ) : Type 0 where
+  pub text : s ≡ byte ":" ∷ writeNumber (q .0 .0) (q .0 .1) (byte ";" ∷ q .1)
+  pub fits : q .0 .1 ≤ numberLimit
+
+pub named-ok : (l : ℕ) (s : List ℕ) (q : (Spelling × ℕ) × List ℕ) → namedText l s ≡ ok q → GotNamed s q
+unfolding namedText
+named-ok l s q e =
     let a = bind-ok (expect l (bytes ":") s) _ q e in
     let b = bind-ok (number l (a .0)) _ q (a .2) in
-    let n : ℕ = b .0 .0 .1 in
     let c = bind-ok (expect l (bytes ";") (b .0 .1)) _ q (b .2) in
-    let g = bind-ok (require (ltb 0 n && leb n seen) 6 l) _ q (c .2) in
-    let nb = number-ok l (a .0) (b .0) (b .1) in
-    let t = require-ok (ltb 0 n && leb n seen) 6 l (g .0) (g .1) in
-    subst (GotReference k seen s) (ok-same (g .2)) (record {
-      text = ap {B = List ℕ} (λ x. tag (refKind k) ∷ x) (expect-ok l (bytes ":") s (a .0) (a .1)
-          ∙ ap {B = List ℕ} (λ x. 58 ∷ x) (nb .text ∙ ap (writeNumber (b .0 .0 .0) n) (expect-ok l (bytes ";") (b .0 .1) (c .0) (c .1))));
-      fits = nb .fits;
-      least = ltb→lt 0 n (and-left (ltb 0 n) (leb n seen) t);
-      most = leb→le n seen (and-right (ltb 0 n) (leb n seen) t);
+    let n = number-ok l (a .0) (b .0) (b .1) in
+    subst (GotNamed s) (ok-same (c .2)) (record {
+      text = expect-ok l (bytes ":") s (a .0) (a .1)
+          ∙ ap {B = List ℕ} (λ x. 58 ∷ x) (n .text ∙ ap (writeNumber (b .0 .0 .0) (b .0 .0 .1)) (expect-ok l (bytes ";") (b .0 .1) (c .0) (c .1)));
+      fits = n .fits;
     })
 
 -- the kinds that a key's tag may be of
@@ -212,7 +283,7 @@ pub data KeyKind (k : Kind) : Type 0 where
   is-int : k ≡ Kind.int → KeyKind k
   is-string : k ≡ Kind.string → KeyKind k
 
-pub key-kind : (c : Container) (l : ℕ) (s : List ℕ) (q : Kind × List ℕ) → tagOf (keyKinds (isArray c)) 4 l s ≡ ok q → KeyKind (q .0)
+pub key-kind : (c : Container) (l : ℕ) (s : List ℕ) (q : Kind × List ℕ) → tagOf tag (keyKinds (isArray c)) 4 l s ≡ ok q → KeyKind (q .0)
 key-kind array l s q e = ⊎-elim is-int (λ m. is-string (List·Memᴰ·eq-of-singleton m)) (List·Memᴰ·cases-cons (tag-ok (keyKinds true) 4 l s q e .among))
 key-kind (object t) l s q e = is-string (List·Memᴰ·eq-of-singleton (tag-ok (keyKinds false) 4 l s q e .among))
 
@@ -220,29 +291,29 @@ pub record GotText (k : Kind) (s : List ℕ) (q : Key × List ℕ) : Type 0 wher
   pub text : tag k ∷ s ≡ writeKey (q .0) (q .1)
   pub fits : KeyFits (q .0)
 
-int-key-ok : (l : ℕ) (s : List ℕ) (q : Key × List ℕ) → keyText Kind.int l s ≡ ok q → GotText Kind.int s q
+int-key-ok : (a : Bool) (l : ℕ) (s : List ℕ) (q : Key × List ℕ) → keyText a Kind.int l s ≡ ok q → GotText Kind.int s q
 unfolding keyText
-int-key-ok l s q e =
+int-key-ok b l s q e =
     let a = bind-ok (intText l s) _ q e in
     let g = int-ok l s (a .0) (a .1) in
     subst (GotText Kind.int s) (ok-same (a .2)) (record { text = g .text; fits = g .fits })
 
-string-key-ok : (l : ℕ) (s : List ℕ) (q : Key × List ℕ) → keyText Kind.string l s ≡ ok q → GotText Kind.string s q
+string-key-ok : (a : Bool) (l : ℕ) (s : List ℕ) (q : Key × List ℕ) → keyText a Kind.string l s ≡ ok q → GotText Kind.string s q
 unfolding keyText
-string-key-ok l s q e =
+string-key-ok b l s q e =
     let a = bind-ok (quotedText l (bytes "\";") s) _ q e in
     let g = quoted-ok l (byte ";") s (a .0) (a .1) in
     subst (GotText Kind.string s) (ok-same (a .2)) (record { text = ap {B = List ℕ} (λ x. 115 ∷ x) (g .text); fits = g .fits })
 
-pub keyText-ok : (k : Kind) (l : ℕ) (s : List ℕ) (q : Key × List ℕ) → KeyKind k → keyText k l s ≡ ok q → GotText k s q
-keyText-ok k l s q (is-int i) e = rw i (int-key-ok l s q (rw i at e))
-keyText-ok k l s q (is-string i) e = rw i (string-key-ok l s q (rw i at e))
+pub keyText-ok : (a : Bool) (k : Kind) (l : ℕ) (s : List ℕ) (q : Key × List ℕ) → KeyKind k → keyText a k l s ≡ ok q → GotText k s q
+keyText-ok a k l s q (is-int i) e = rw i (int-key-ok a l s q (rw i at e))
+keyText-ok a k l s q (is-string i) e = rw i (string-key-ok a l s q (rw i at e))
 
 string-allowed : (t : Quoted) (k : Key) (r s : List ℕ) → tag Kind.string ∷ s ≡ writeKey k r → T (allowed (object t) k)
 string-allowed t (intKey x) r s e = let z : _≡_ {A = ℕ} (tag Kind.string) (tag Kind.int) = cc in omega arith
 string-allowed t (stringKey q) r s e = tt
 
-pub key-allowed : (c : Container) (l : ℕ) (s : List ℕ) (a : Kind × List ℕ) (k : Key) (r : List ℕ) → tagOf (keyKinds (isArray c)) 4 l s ≡ ok a
+pub key-allowed : (c : Container) (l : ℕ) (s : List ℕ) (a : Kind × List ℕ) (k : Key) (r : List ℕ) → tagOf tag (keyKinds (isArray c)) 4 l s ≡ ok a
     → tag (a .0) ∷ a .1 ≡ writeKey k r → T (allowed c k)
 key-allowed array l s a k r e f = tt
 key-allowed (object t) l s a k r e f = string-allowed t k r (a .1)

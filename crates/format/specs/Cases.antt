@@ -8,9 +8,10 @@ use lib.ListN.{replicate}
 use Rattle.format.specs.Bytes.{byte, bytes, sameBytes}
 use Rattle.format.specs.Tree.{nodes, ordinals}
 use Rattle.format.specs.Syntax.{Value, own, write, print}
-use Rattle.format.specs.Limits.{sourceLimit, isFloat}
+use Rattle.format.specs.Limits.{sourceLimit, Terms, isFloat}
 use Rattle.format.specs.Answer.{Answer, ok, refused}
-use Rattle.format.specs.Read.{digits, number, intText, quotedText, boolText, floatText, referenceText, keyText, readKey, readBranch, readBody, read}
+use Rattle.format.specs.Read.{digits, number, boolText, intText, floatText, quotedText, scalarText, countText, headText, namedText, keyText}
+use Rattle.format.specs.Read.{readKey, readBranch, readReference, readScalar, readBody, readIn, read}
 use Rattle.format.specs.Table.{flat, tableOf}
 use Rattle.format.specs.Shows.{nodeAt}
 use Rattle.format.specs.Canonical.{canonical}
@@ -28,16 +29,16 @@ pub data Outcome : Type 0 where
 -- a plan and a table's room, and what reading them shows; or inserting into the plan, with an output as long as a plan may be
 pub record Case : Type 0 where
   pub source : List ℕ
-  pub capacity : ℕ
+  pub terms : Terms
   pub outcome : Outcome
 
 -- with the room of paper 01's program, "a table of 8,190 words", or another
 infix 10 _⇒_
 abbrev pub _⇒_ : List ℕ → Outcome → Case
-s ⇒ o = record { source = s; capacity = 1365; outcome = o }
+s ⇒ o = record { source = s; terms = record { capacity = 1365 }; outcome = o }
 
 abbrev pub within : (capacity : ℕ) → Case → Case
-within n c = record { source = c .source; capacity = n; outcome = c .outcome }
+within n c = record { source = c .source; terms = record { capacity = n }; outcome = c .outcome }
 
 abbrev pub sameAnswer : Answer (List ℕ) → Answer (List ℕ) → Bool
 sameAnswer (ok s) (ok t) = sameBytes s t
@@ -61,10 +62,10 @@ shown (insertion node place key value a) r i = sameAnswer a (i node place key va
 
 -- every case of a table, with all that it takes to compute it open
 unfoldable pub hold : List Case → Bool
-unfolding shown tableOf canonical insert keyOf scalarOf insertionOf insertBytes read readBody readBranch readKey keyText digits number intText quotedText
-    boolText floatText referenceText isFloat decimal decimalIn write
+unfolding shown tableOf canonical insert keyOf scalarOf insertionOf insertBytes readIn readBody readScalar readReference readBranch readKey keyText namedText
+    headText countText scalarText quotedText floatText intText boolText number digits isFloat decimal decimalIn write
 hold [] = true
-hold (c ∷ cs) = shown (c .outcome) (read (c .capacity) (c .source)) (insertBytes (c .capacity) sourceLimit (c .source)) && hold cs
+hold (c ∷ cs) = shown (c .outcome) (read (c .terms) (c .source)) (insertBytes (c .terms) sourceLimit (c .source)) && hold cs
 
 -- "Those marked * form the small proved set"
 abbrev pub starred : List Case

@@ -8,7 +8,7 @@ use lib.ListN.{length}
 use Rattle.format.specs.Tree.{leaf, ref, branch, none, pair, count, nodes}
 use Rattle.format.specs.Syntax.{intKey, stringKey, null, bool, int, float, string, array, object}
 use Rattle.format.specs.Syntax.{Literal, Quoted, Key, Scalar, Container, Value, Values, print}
-use Rattle.format.specs.Limits.{numberLimit, sourceLimit, depthLimit, integerLimit, isFloat, Seen, unseen, seeBranch, see}
+use Rattle.format.specs.Limits.{numberLimit, sourceLimit, depthLimit, integerLimit, Terms, isFloat, Seen, unseen, seeBranch, see}
 use Rattle.format.specs.Keys.{hasKey}
 
 abbrev pub IntFits : Literal → Type 0
@@ -92,11 +92,11 @@ pub record Valid (v : Value) : Type 0 where
   pub limited : Limited v
 
 -- Demand 2, "A plan is accepted exactly when it fits paper 01": it is valid, and the table has room for its nodes.
-pub record Fits (capacity : ℕ) (v : Value) : Type 0 where
+pub record Fits (terms : Terms) (v : Value) : Type 0 where
   pub valid : Valid v
-  pub small : nodes v ≤ capacity
+  pub small : nodes v ≤ terms .capacity
 
 -- the source is the print of a syntax that fits
-pub record IsPlan (capacity : ℕ) (source : List ℕ) (v : Value) : Type 0 where
+pub record IsPlan (terms : Terms) (source : List ℕ) (v : Value) : Type 0 where
   pub printed : source ≡ print v
-  pub fits : Fits capacity v
+  pub fits : Fits terms v

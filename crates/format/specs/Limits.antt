@@ -1,4 +1,4 @@
--- What the grammar and reading share: limits, float texts, and what is seen of earlier values.
+-- What the grammar and reading share: limits, a service's terms, float texts, and what is seen of earlier values.
 use mathlib.Core.List.{List, [], _∷_}
 use mathlib.Core.Bool.{Bool, true, false, _&&_, _||_}
 use Prim.Native.Nat.{ℕ, suc, _+_}
@@ -26,6 +26,10 @@ abbrev pub integerLimit : Sign → ℕ
 integerLimit unsigned = 9223372036854775807
 integerLimit plus = 9223372036854775807
 integerLimit minus = 9223372036854775808
+
+-- what a service goes by, besides the bytes lent: how many nodes the table has room for
+pub record Terms : Type 0 where
+  pub capacity : ℕ
 
 -- "optional `+` or `-`": the sign in front, and what follows
 abbrev pub signOf : List ℕ → Sign × List ℕ

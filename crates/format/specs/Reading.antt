@@ -5,6 +5,7 @@ use Prim.Native.Nat.{ℕ, _/_, _≤_, _<_}
 use lib.ListN.{length, drop, replicate}
 use Rattle.format.specs.Tree.{nodes, ordinals}
 use Rattle.format.specs.Syntax.{Value, own}
+use Rattle.format.specs.Limits.{Terms}
 use Rattle.format.specs.Answer.{Answer, ok, refused, _>>=_}
 use Rattle.format.specs.Read.{read}
 use Rattle.format.specs.Table.{width, flat, tableOf}
@@ -13,14 +14,17 @@ use Rattle.format.specs.Table.{width, flat, tableOf}
 abbrev pub capacityOf : (table : List ℕ) → ℕ
 capacityOf t = length t / width
 
+abbrev pub termsOf : (table : List ℕ) → Terms
+termsOf t = record { capacity = capacityOf t }
+
 -- "Reading returns the count of nodes and of numbers taken."
 pub record Counts : Type 0 where
   pub nodes : ℕ
   pub ordinals : ℕ
 
-unfoldable pub answer : (capacity : ℕ) → (source : List ℕ) → Answer Counts
-answer capacity source = do
-  v ← read capacity source
+unfoldable pub answer : Terms → (source : List ℕ) → Answer Counts
+answer terms source = do
+  v ← read terms source
   ok (record { nodes = nodes v; ordinals = ordinals own v })
 
 -- what the table of refusals says of a number and its position in a plan of so many bytes: 1 at 0, 2 up to the plan's end, 3 to 10 at a byte
@@ -43,5 +47,5 @@ abbrev pub filled : Answer Value → (table : List ℕ) → List ℕ
 filled (ok v) t = over (flat (tableOf v)) t
 filled (refused n p) t = cleared t
 
-unfoldable pub tableAfter : (source table : List ℕ) → List ℕ
-tableAfter source t = filled (read (capacityOf t) source) t
+unfoldable pub tableAfter : Terms → (source table : List ℕ) → List ℕ
+tableAfter terms source t = filled (read terms source) t

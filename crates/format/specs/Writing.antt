@@ -6,7 +6,7 @@ use lib.Dec.{leb, ltb}
 use lib.ListN.{length}
 use Rattle.format.specs.Tree.{leaf, ref, branch, none, pair, TreePath, count, nodes}
 use Rattle.format.specs.Syntax.{Key, Scalar, Value, Values, print}
-use Rattle.format.specs.Limits.{sourceLimit, depthLimit, unseen}
+use Rattle.format.specs.Limits.{sourceLimit, depthLimit, Terms, unseen}
 use Rattle.format.specs.Keys.{hasKey}
 use Rattle.format.specs.Answer.{Answer, ok, refused, _>>=_, require}
 use Rattle.format.specs.Read.{setting, isArray, readKey, readValue, read}
@@ -25,9 +25,9 @@ withRoom room bytes = do
 -- ---- retyping
 
 -- "Retyping: reading, then 14."
-unfoldable pub canonicalBytes : (capacity room : ℕ) → (source : List ℕ) → Answer (List ℕ)
-canonicalBytes capacity room source = do
-  v ← read capacity source
+unfoldable pub canonicalBytes : Terms → (room : ℕ) → (source : List ℕ) → Answer (List ℕ)
+canonicalBytes terms room source = do
+  v ← read terms source
   withRoom room (print (canonical v))
 
 -- ---- inserting
@@ -60,8 +60,12 @@ exactly (ok (x, [])) = ok x
 exactly (ok (x, b ∷ s)) = refused 13 0
 exactly (refused n p) = refused 13 0
 
+-- a text is one node
+abbrev pub oneNode : Terms
+oneNode = record { capacity = 1 }
+
 unfoldable pub keyOf : List ℕ → Answer Key
-keyOf text = exactly (readKey (setting 1 text) true [] 0 text)
+keyOf text = exactly (readKey (setting oneNode text) true [] 0 text)
 
 abbrev pub plain : Value → Answer Scalar
 plain (leaf x) = ok x
@@ -69,7 +73,7 @@ plain (ref r) = refused 13 0
 plain (branch h ps) = refused 13 0
 
 unfoldable pub scalarOf : List ℕ → Answer Scalar
-scalarOf text = exactly (readValue (setting 1 text) 1 unseen 0 text) >>= plain
+scalarOf text = exactly (readValue (setting oneNode text) 1 unseen 0 text) >>= plain
 
 -- an insertion that only the room for bytes can still refuse: the plan given, the array, the key and the value
 pub record Insertion : Type 0 where
@@ -79,16 +83,16 @@ pub record Insertion : Type 0 where
   pub value : Scalar
 
 -- "Inserting: reading, 11, 12, 13, 9 (new key present), 8 (array at depth 64), 7 (two more nodes), 14; here 9, 8 and 7 have position 0.": up to 14
-unfoldable pub insertionOf : (capacity : ℕ) → (source : List ℕ) → (node place : ℕ) → (key value : List ℕ) → Answer Insertion
-insertionOf capacity source node place key value = do
-  v ← read capacity source
+unfoldable pub insertionOf : Terms → (source : List ℕ) → (node place : ℕ) → (key value : List ℕ) → Answer Insertion
+insertionOf terms source node place key value = do
+  v ← read terms source
   site ← arrayAt node v
   _ ← require (leb place (count (site .pairs))) 12 0
   k ← keyOf key
   x ← scalarOf value
   _ ← require (not (hasKey k (keys (site .pairs)))) 9 0
   _ ← require (ltb (suc (length (site .path))) depthLimit) 8 0
-  _ ← require (leb (nodes v + 2) capacity) 7 0
+  _ ← require (leb (nodes v + 2) (terms .capacity)) 7 0
   ok (record { plan = v; site = site; key = k; value = x })
 
 -- the syntax of the plan to write
@@ -96,7 +100,7 @@ abbrev pub insertedPlan : (place : ℕ) → Insertion → Value
 insertedPlan place i = insert (i .site .path) place (i .key) (i .value) (i .plan)
 
 -- and 14
-unfoldable pub insertBytes : (capacity room : ℕ) → (source : List ℕ) → (node place : ℕ) → (key value : List ℕ) → Answer (List ℕ)
-insertBytes capacity room source node place key value = do
-  i ← insertionOf capacity source node place key value
+unfoldable pub insertBytes : Terms → (room : ℕ) → (source : List ℕ) → (node place : ℕ) → (key value : List ℕ) → Answer (List ℕ)
+insertBytes terms room source node place key value = do
+  i ← insertionOf terms source node place key value
   withRoom room (print (insertedPlan place i))
