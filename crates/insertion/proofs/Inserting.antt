@@ -10,7 +10,7 @@ use Rattle.decimal.proofs.Decide.{and-left, and-right}
 use Rattle.format.specs.Tree.{TreePath, count, nodes, ordinals, paths}
 use Rattle.format.specs.Syntax.{Key, Scalar, Value, own, writeKey, writeScalar, print}
 use Rattle.format.specs.Keys.{keyMeaning, hasKey}
-use Rattle.format.specs.Limits.{sourceLimit}
+use Rattle.format.specs.Limits.{sourceLimit, Terms}
 use Rattle.format.specs.Fits.{KeyFits, ScalarFits, Valid, IsPlan}
 use Rattle.format.specs.Answer.{ok, require}
 use Rattle.format.specs.Meaning.{scalarMeaning, Meaning, meaning, Means}
@@ -35,12 +35,12 @@ pub record Numbered (a : TreePath) (p : ℕ) (old new : Value) : Type 0 where
   -- "old numbers from k on are one higher"
   pub higher : (t : ℕ) → newOrdinal a p old ≤ t → getD (paths own new) t [] ≡ shift a p (getD (paths own old) (t - 1) [])
 
-pub record Inserted (capacity room : ℕ) (source : List ℕ) (node place : ℕ) (key value bytes : List ℕ) : Type 0 where
+pub record Inserted (terms : Terms) (room : ℕ) (source : List ℕ) (node place : ℕ) (key value bytes : List ℕ) : Type 0 where
   pub old : Value
   pub site : Site
   pub k : Key
   pub x : Scalar
-  pub was : IsPlan capacity source old
+  pub was : IsPlan terms source old
   -- the array at the node; its path leads there through the table
   pub at : WayTo old node (site .path) (site .pairs)
   pub followed : follow (tableOf old) 0 (site .path) ≡ node
@@ -51,7 +51,7 @@ pub record Inserted (capacity room : ℕ) (source : List ℕ) (node place : ℕ)
   pub value-is : value ≡ writeScalar x []
   pub value-fits : ScalarFits x
   pub text : bytes ≡ print (insert (site .path) place k x old)
-  pub plan : IsPlan capacity bytes (insert (site .path) place k x old)
+  pub plan : IsPlan terms bytes (insert (site .path) place k x old)
   -- "Demand 3 stands over demand 2's meaning"
   pub means : (m : Meaning) → Means source m → Means bytes (insertMeaning (site .path) place (keyMeaning k) (scalarMeaning x) m)
   pub numbered : Numbered (site .path) place old (insert (site .path) place k x old)
@@ -66,30 +66,30 @@ means-more source bytes v w f a s b t e m n =
     let same : meaning v ≡ m = one-meaning source (meaning v) m (record { syntax = v; valid = a; printed = s; is = refl }) n in
     record { syntax = w; valid = b; printed = t; is = e ∙ ap f same }
 
-pub inserted : (capacity room : ℕ) (source : List ℕ) (node place : ℕ) (key value bytes : List ℕ)
-    → insertBytes capacity room source node place key value ≡ ok bytes → Inserted capacity room source node place key value bytes
+pub inserted : (terms : Terms) (room : ℕ) (source : List ℕ) (node place : ℕ) (key value bytes : List ℕ)
+    → insertBytes terms room source node place key value ≡ ok bytes → Inserted terms room source node place key value bytes
 unfolding insertBytes
-inserted capacity room source node place key value bytes e =
-    let a = bind-ok (insertionOf capacity source node place key value) _ bytes e in
+inserted terms room source node place key value bytes e =
+    let a = bind-ok (insertionOf terms source node place key value) _ bytes e in
     let v : Value = a .0 .plan in
     let s : Site = a .0 .site in
     let k : Key = a .0 .key in
     let x : Scalar = a .0 .value in
     let w : Value = insert (s .path) place k x v in
     let b = bind-ok (require (fitsIn room (length (print w))) 14 0) _ bytes (a .2) in
-    let enough = passes capacity source node place key value (a .0) (a .1) in
+    let enough = passes terms source node place key value (a .0) (a .1) in
     let pair = enough .level .fresh .pair in
     let was = pair .spot .array .was in
     let way = pair .spot .array .at in
     let within : place ≤ count (s .pairs) = pair .spot .within in
-    let new : T (not (hasKey k (keys (s .pairs)))) = new-key capacity source node place key value (enough .level .fresh) in
+    let new : T (not (hasKey k (keys (s .pairs)))) = new-key terms source node place key value (enough .level .fresh) in
     let fits : T (fitsIn room (length (print w))) = require-ok (fitsIn room (length (print w))) 14 0 (b .0) (b .1) in
     let short : length (print w) ≤ room = leb→le (length (print w)) room (and-left (leb (length (print w)) room) (leb (length (print w)) sourceLimit) fits) in
     let limit : length (print w) ≤ sourceLimit =
     leb→le (length (print w)) sourceLimit (and-right (leb (length (print w)) room) (leb (length (print w)) sourceLimit) fits) in
     let valid : Valid w = insert-valid way place within k x (pair .key-fits) (pair .value-fits) new (enough .level .shallow) limit (was .fits .valid) in
     let more : nodes w ≡ nodes v + 2 = nodes-insert way place within k x in
-    subst (Inserted capacity room source node place key value) (ok-same (b .2)) (record {
+    subst (Inserted terms room source node place key value) (ok-same (b .2)) (record {
       old = v;
       site = s;
       k = k;

@@ -11,7 +11,7 @@ use Rattle.format.specs.Limits.{unseen}
 use Rattle.format.specs.Fits.{KeyFits, ScalarFits, Sound}
 use Rattle.format.specs.Answer.{Answer, ok, refused, _>>=_}
 use Rattle.format.specs.Read.{setting, readKey, readValue}
-use Rattle.format.specs.Writing.{exactly, keyOf, plain, scalarOf}
+use Rattle.format.specs.Writing.{oneNode, exactly, keyOf, plain, scalarOf}
 use Rattle.format.proofs.Answers.{ok-same, refused-same, not-both, bind-ok, bind-refused}
 use Rattle.format.proofs.Printed.{key-printed, scalar-printed}
 use Rattle.format.proofs.Inversion.{key-ok, value-ok}
@@ -28,22 +28,22 @@ plain-ok (branch h ps) x e = absurd (not-both e)
 
 pub key-of : (text : List ℕ) (k : Key) → keyOf text ≡ ok k → (text ≡ writeKey k []) × KeyFits k
 unfolding keyOf
-key-of text k e = let g = key-ok (setting 1 text) array [] 0 text (k, []) (exactly-ok (readKey (setting 1 text) true [] 0 text) k e) in (g .text, g .fits)
+key-of text k e = let g = key-ok oneNode text array [] 0 text (k, []) (exactly-ok (readKey (setting oneNode text) true [] 0 text) k e) in (g .text, g .fits)
 
 pub scalar-of : (text : List ℕ) (x : Scalar) → scalarOf text ≡ ok x → (text ≡ writeScalar x []) × ScalarFits x
 unfolding scalarOf write
 scalar-of text x e =
-    let a = bind-ok (exactly (readValue (setting 1 text) 1 unseen 0 text)) plain x e in
-    let g = value-ok (setting 1 text) 1 unseen 0 text (a .0, []) (exactly-ok (readValue (setting 1 text) 1 unseen 0 text) (a .0) (a .1)) in
+    let a = bind-ok (exactly (readValue (setting oneNode text) 1 unseen 0 text)) plain x e in
+    let g = value-ok oneNode text 1 unseen 0 text (a .0, []) (exactly-ok (readValue (setting oneNode text) 1 unseen 0 text) (a .0) (a .1)) in
     subst (λ (v : Value). (text ≡ write v []) × Sound v) (plain-ok (a .0) x (a .2)) (g .text, g .sound)
 
 pub key-text : (k : Key) → KeyFits k → keyOf (writeKey k []) ≡ ok k
 unfolding keyOf
-key-text k f = rw (key-printed (setting 1 (writeKey k [])) array [] 0 k [] (omega arith) f tt tt)
+key-text k f = rw (key-printed oneNode (writeKey k []) array [] 0 k [] (omega arith) f tt tt)
 
 pub scalar-text : (x : Scalar) → ScalarFits x → scalarOf (writeScalar x []) ≡ ok x
 unfolding scalarOf
-scalar-text x f = rw (scalar-printed (setting 1 (writeScalar x [])) 0 unseen 0 x [] (omega arith) f)
+scalar-text x f = rw (scalar-printed oneNode (writeScalar x []) 0 unseen 0 x [] (omega arith) f)
 
 -- ---- a refusal is 13 at 0
 thirteen : {A : Type 0} (n p : ℕ) → _≡_ {A = Answer A} (refused 13 0) (refused n p) → (n ≡ 13) × (p ≡ 0)
@@ -61,15 +61,15 @@ plain-refused (branch h ps) n p e = thirteen n p e
 
 pub key-refused : (text : List ℕ) (n p : ℕ) → keyOf text ≡ refused n p → (n ≡ 13) × (p ≡ 0)
 unfolding keyOf
-key-refused text n p e = exactly-refused (readKey (setting 1 text) true [] 0 text) n p e
+key-refused text n p e = exactly-refused (readKey (setting oneNode text) true [] 0 text) n p e
 
 pub scalar-refused : (text : List ℕ) (n p : ℕ) → scalarOf text ≡ refused n p → (n ≡ 13) × (p ≡ 0)
 unfolding scalarOf
-scalar-refused text n p e = go (bind-refused (exactly (readValue (setting 1 text) 1 unseen 0 text)) plain n p e)
+scalar-refused text n p e = go (bind-refused (exactly (readValue (setting oneNode text) 1 unseen 0 text)) plain n p e)
   where
-    go : (exactly (readValue (setting 1 text) 1 unseen 0 text) ≡ refused n p) ⊎
-        ((v : Value) × (exactly (readValue (setting 1 text) 1 unseen 0 text) ≡ ok v) × (plain v ≡ refused n p)) → (n ≡ 13) × (p ≡ 0)
-    go (inl h) = exactly-refused (readValue (setting 1 text) 1 unseen 0 text) n p h
+    go : (exactly (readValue (setting oneNode text) 1 unseen 0 text) ≡ refused n p) ⊎
+        ((v : Value) × (exactly (readValue (setting oneNode text) 1 unseen 0 text) ≡ ok v) × (plain v ≡ refused n p)) → (n ≡ 13) × (p ≡ 0)
+    go (inl h) = exactly-refused (readValue (setting oneNode text) 1 unseen 0 text) n p h
     go (inr h) = plain-refused (h .0) n p (h .2)
 
 -- ---- both texts: 13 where they are not a key and a scalar

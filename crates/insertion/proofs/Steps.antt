@@ -13,7 +13,7 @@ use Rattle.format.specs.Kind.{Kind, tag}
 use Rattle.format.specs.Tree.{count, nodes}
 use Rattle.format.specs.Syntax.{Key, Scalar, Value, Values, writeKey, writeScalar}
 use Rattle.format.specs.Keys.{keyMeaning, sameKey, hasKey}
-use Rattle.format.specs.Limits.{depthLimit}
+use Rattle.format.specs.Limits.{depthLimit, Terms}
 use Rattle.format.specs.Fits.{KeyFits, ScalarFits, IsPlan}
 use Rattle.format.specs.Answer.{Answer, ok, refused, _>>=_, require}
 use Rattle.format.specs.Read.{read}
@@ -64,10 +64,10 @@ has-key true e = tt
 has-key false e = absurd (subst T e tt)
 
 -- ---- the steps passed, in the order "reading, 11, 12, 13, 9 (new key present), 8 (array at depth 64), 7 (two more nodes)", in words of the grammar
-module _ (capacity : ℕ) (source : List ℕ) (node place : ℕ) (key value : List ℕ) where
+module _ (terms : Terms) (source : List ℕ) (node place : ℕ) (key value : List ℕ) where
   -- the source is a plan, and an array of it stands at the node, with its path and its pairs
   pub record AtArray (old : Value) (s : Site) : Type 0 where
-    pub was : IsPlan capacity source old
+    pub was : IsPlan terms source old
     pub at : WayTo old node (s .path) (s .pairs)
 
   pub record AtPlace (old : Value) (s : Site) : Type 0 where
@@ -91,19 +91,19 @@ module _ (capacity : ℕ) (source : List ℕ) (node place : ℕ) (key value : Li
 
   pub record WithNodes (old : Value) (s : Site) (k : Key) (x : Scalar) : Type 0 where
     pub level : WithDepth old s k x
-    pub small : nodes old + 2 ≤ capacity
+    pub small : nodes old + 2 ≤ terms .capacity
 
   -- the refusals and their positions, each with the steps before it passed
   pub data StepRow : (code at : ℕ) → Type 0 where
-    reading : (n p : ℕ) → read capacity source ≡ refused n p → StepRow n p
-    noArray : (old : Value) → IsPlan capacity source old → (node < nodes old → nodeAt (tableOf old) node .tag ≡ tag Kind.array → ⊥) → StepRow 11 0
+    reading : (n p : ℕ) → read terms source ≡ refused n p → StepRow n p
+    noArray : (old : Value) → IsPlan terms source old → (node < nodes old → nodeAt (tableOf old) node .tag ≡ tag Kind.array → ⊥) → StepRow 11 0
     noPlace : (old : Value) (s : Site) → AtArray old s → count (s .pairs) < place → StepRow 12 0
     unfit : (old : Value) (s : Site) → AtPlace old s
         → ((k : Key) (x : Scalar) → KeyFits k → key ≡ writeKey k [] → ScalarFits x → value ≡ writeScalar x [] → ⊥) → StepRow 13 0
     sameKeyed : (old : Value) (s : Site) (k : Key) (x : Scalar) → WithPair old s k x → (j : Key) → List·Memᴰ j (keys (s .pairs)) → keyMeaning k ≡ keyMeaning j
         → StepRow 9 0
     tooDeep : (old : Value) (s : Site) (k : Key) (x : Scalar) → WithNewKey old s k x → suc (length (s .path)) ≡ depthLimit → StepRow 8 0
-    noNodes : (old : Value) (s : Site) (k : Key) (x : Scalar) → WithDepth old s k x → capacity < nodes old + 2 → StepRow 7 0
+    noNodes : (old : Value) (s : Site) (k : Key) (x : Scalar) → WithDepth old s k x → terms .capacity < nodes old + 2 → StepRow 7 0
 
   -- ---- a refusal has its row, and what is not refused has passed the steps
   abbrev Told : Answer Insertion → Type 0
@@ -122,11 +122,11 @@ module _ (capacity : ℕ) (source : List ℕ) (node place : ℕ) (key value : Li
   numbered : (n p m : ℕ) → (n ≡ m) × (p ≡ 0) → StepRow m 0 → StepRow n p
   numbered n p m e r = subst (λ (q : ℕ). StepRow q p) (sym (e .0)) (subst (λ (q : ℕ). StepRow m q) (sym (e .1)) r)
 
-  told : Told (insertionOf capacity source node place key value)
+  told : Told (insertionOf terms source node place key value)
   unfolding insertionOf
   told =
-      bind (read capacity source) _ (λ n p e. reading n p e) (λ v a.
-      let was : IsPlan capacity source v = accepted-exactly capacity source v .0 a in
+      bind (read terms source) _ (λ n p e. reading n p e) (λ v a.
+      let was : IsPlan terms source v = accepted-exactly terms source v .0 a in
       bind (arrayAt node v) _ (λ n p e. let r = no-array v node n p e in numbered n p 11 (r .0, r .1) (noArray v was (r .2))) (λ s b.
       let way : WayTo v node (s .path) (s .pairs) = locates v node s b in
       let array : AtArray v s = record { was = was; at = way } in
@@ -146,18 +146,18 @@ module _ (capacity : ℕ) (source : List ℕ) (node place : ℕ) (key value : Li
       ask (ltb (suc (length (s .path))) depthLimit) 8 0 _ (λ e.
       tooDeep v s k x fresh (omega (arith, site-depth v node s (was .fits .valid) way, ltb-false (suc (length (s .path))) depthLimit e))) (λ h.
       let level : WithDepth v s k x = record { fresh = fresh; shallow = ltb-true (suc (length (s .path))) depthLimit h } in
-      ask (leb (nodes v + 2) capacity) 7 0 _ (λ e. noNodes v s k x level (leb-false (nodes v + 2) capacity e)) (λ i.
-      record { level = level; small = leb-true (nodes v + 2) capacity i }))))))))
+      ask (leb (nodes v + 2) (terms .capacity)) 7 0 _ (λ e. noNodes v s k x level (leb-false (nodes v + 2) (terms .capacity) e)) (λ i.
+      record { level = level; small = leb-true (nodes v + 2) (terms .capacity) i }))))))))
 
-  pub step-row : (n p : ℕ) → insertionOf capacity source node place key value ≡ refused n p → StepRow n p
+  pub step-row : (n p : ℕ) → insertionOf terms source node place key value ≡ refused n p → StepRow n p
   step-row n p e = subst Told e told
 
-  pub passes : (i : Insertion) → insertionOf capacity source node place key value ≡ ok i → WithNodes (i .plan) (i .site) (i .key) (i .value)
+  pub passes : (i : Insertion) → insertionOf terms source node place key value ≡ ok i → WithNodes (i .plan) (i .site) (i .key) (i .value)
   passes i e = subst Told e told
 
   -- ---- where a row holds there is that refusal, and where none does the insertion
-  reads : {old : Value} {s : Site} → AtArray old s → read capacity source ≡ ok old
-  reads {old} a = accepted-exactly capacity source old .1 (a .was)
+  reads : {old : Value} {s : Site} → AtArray old s → read terms source ≡ ok old
+  reads {old} a = accepted-exactly terms source old .1 (a .was)
 
   placed : {old : Value} {s : Site} → AtPlace old s → leb place (count (s .pairs)) ≡ true
   placed {old} {s} a = le-leb place (count (s .pairs)) (a .within)
@@ -178,7 +178,7 @@ module _ (capacity : ℕ) (source : List ℕ) (node place : ℕ) (key value : Li
   at-site a = way-given (a .at)
 
   pub steps-pass : (old : Value) (s : Site) (k : Key) (x : Scalar) → WithNodes old s k x
-      → insertionOf capacity source node place key value ≡ ok (record { plan = old; site = s; key = k; value = x })
+      → insertionOf terms source node place key value ≡ ok (record { plan = old; site = s; key = k; value = x })
   unfolding insertionOf
   steps-pass old s k x w =
       let level = w .level in
@@ -192,7 +192,7 @@ module _ (capacity : ℕ) (source : List ℕ) (node place : ℕ) (key value : Li
         valued pair,
         newly (level .fresh),
         lt-ltb (suc (length (s .path))) depthLimit (level .shallow),
-        le-leb (nodes old + 2) capacity (w .small),
+        le-leb (nodes old + 2) (terms .capacity) (w .small),
       )
 
   is-refused : {A : Type 0} (a : Answer A) → ((x : A) → a ≡ ok x → ⊥) → (m : ℕ) → ((n p : ℕ) → a ≡ refused n p → (n ≡ m) × (p ≡ 0)) → a ≡ refused m 0
@@ -206,10 +206,10 @@ module _ (capacity : ℕ) (source : List ℕ) (node place : ℕ) (key value : Li
       11 (λ n p e. let r = no-array old node n p e in (r .0, r .1))
 
   -- "A number is given exactly when its row holds and nothing earlier in the order does."
-  pub row-step : (n p : ℕ) → StepRow n p → insertionOf capacity source node place key value ≡ refused n p
+  pub row-step : (n p : ℕ) → StepRow n p → insertionOf terms source node place key value ≡ refused n p
   unfolding insertionOf
   row-step n p (reading m q e) = rw e
-  row-step n p (noArray old w f) = rw (accepted-exactly capacity source old .1 w, refuses-array old f)
+  row-step n p (noArray old w f) = rw (accepted-exactly terms source old .1 w, refuses-array old f)
   row-step n p (noPlace old s a h) = rw (reads a, at-site a, lt-leb place (count (s .pairs)) h)
   row-step n p (unfit old s a f) = rw (reads (a .array), at-site (a .array), placed a) (texts-refused key value _ f)
   row-step n p (sameKeyed old s k x a j m e) =
@@ -229,5 +229,5 @@ module _ (capacity : ℕ) (source : List ℕ) (node place : ℕ) (key value : Li
         valued pair,
         newly (a .fresh),
         lt-ltb (suc (length (s .path))) depthLimit (a .shallow),
-        lt-leb (nodes old + 2) capacity h,
+        lt-leb (nodes old + 2) (terms .capacity) h,
       )
