@@ -14,11 +14,11 @@ use Rattle.format.specs.Syntax.{null, bool, int, float, string, intKey, stringK
 use Rattle.format.specs.Syntax.{variableRef, refKind, Reference, Value, Values, writeNumber}
 use Rattle.format.specs.Limits.{Seen, seeBranch}
 use Rattle.format.specs.Answer.{Answer, ok, refused, _>>=_, require}
-use Rattle.format.specs.Read.{expect, number, intText, quotedText, boolText, floatText, referenceText, keyText, Setting, isArray, Inner, readPairs, readBranch}
+use Rattle.format.specs.Read.{expect, number, intText, quotedText, boolText, floatText, referenceText, keyText, Setting, isArray, Inner, readPairs, readBranch, countText, namedText, headText, scalarText}
 use Rattle.format.specs.Read.{readBody}
 use Rattle.format.specs.Table.{Node, single, keyNode, scalarNode, branchNode}
 use Rattle.format.proofs.Answers.{ok-same, not-both, bind-ok, bind-map}
-use Rattle.scanner.specs.Scans.{countText, namedText, headText, containerTold, scalarText, scalarTold}
+use Rattle.scanner.specs.Scans.{containerTold, scalarTold}
 use Rattle.bytes_at.proofs.BytesAt.{plus-two}
 use Rattle.scanner.proofs.Printed.{scalarKind}
 use Rattle.scanner.proofs.Numbers.{kept}

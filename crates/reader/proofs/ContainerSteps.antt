@@ -14,13 +14,13 @@ use Rattle.format.specs.Tree as tree
 use Rattle.format.specs.Tree.{branch, nodesIn, one}
 use Rattle.format.specs.Syntax.{array, object, Spelling, Container, Value, Values}
 use Rattle.format.specs.Answer.{Answer, ok, refused, _>>=_, codeOf}
-use Rattle.format.specs.Read.{expect, isArray, readPairs, setting, Inner}
+use Rattle.format.specs.Read.{expect, isArray, readPairs, setting, Inner, headText}
 use Rattle.format.specs.Table.{Node, words, width, endWord, flat, branchNode, pairsOffset, taken, table, tableIn}
 use Rattle.format.proofs.Inversion.{pairs-count}
 use Rattle.scanner.specs.declared.Text.{Text}
 use Rattle.scanner.specs.declared.Scan.{Scan}
 use Rattle.bytes_at.specs.ByteAt.{byteAt}
-use Rattle.scanner.specs.Scans.{scanAnswer, Found, Scans, headText, containerTold, headTold}
+use Rattle.scanner.specs.Scans.{scanAnswer, Found, Scans, containerTold, headTold}
 use Rattle.bytes_at.proofs.BytesAt.{byte-there, expect-yes, expect-no}
 use Rattle.scanner.proofs.Numbers.{unfit-of}
 use Rattle.reader.specs.declared.cursor.Cursor.{Cursor}

@@ -9,14 +9,14 @@ use Rattle.format.specs.Bytes.{byte, bytes}
 use Rattle.format.specs.Kind.{Kind, tag}
 use Rattle.format.specs.Syntax.{Spelling, Quoted, Container, writeNumber, writeContainer}
 use Rattle.format.specs.Answer.{ok}
-use Rattle.format.specs.Read.{expect, number, quotedText}
+use Rattle.format.specs.Read.{expect, number, quotedText, countText, headText}
 use Rattle.format.specs.Table.{pairsOffset}
 use Rattle.format.proofs.Answers.{ok-same, bind-ok}
 use Rattle.format.proofs.Fronts.{number-length, quoted-length}
 use Rattle.format.proofs.Texts.{expect-ok, number-ok, quoted-ok}
 use Rattle.scanner.specs.declared.Text.{Text}
 use Rattle.scanner.specs.declared.Scan.{Scan}
-use Rattle.scanner.specs.Scans.{Found, Scans, countText, headText, headTold}
+use Rattle.scanner.specs.Scans.{Found, Scans, headTold}
 use Rattle.reader.specs.Texts.{isArrayTag}
 
 -- ---- its tag

@@ -14,13 +14,13 @@ use Rattle.format.specs.Tree.{leaf, ref, nodes, ordinals, one}
 use Rattle.format.specs.Syntax.{Reference, Value, own}
 use Rattle.format.specs.Limits.{Seen}
 use Rattle.format.specs.Answer.{Answer, ok, refused, _>>=_, require, codeOf}
-use Rattle.format.specs.Read.{setting, readBody, readValue}
+use Rattle.format.specs.Read.{setting, readBody, readValue, namedText, scalarText}
 use Rattle.format.specs.Table.{Node, words, width, flat, refNode, taken, table}
 use Rattle.format.proofs.Answers.{bind-ok, require-ok}
 use Rattle.format.proofs.Tags.{all}
 use Rattle.scanner.specs.declared.Text.{Text}
 use Rattle.scanner.specs.declared.Scan.{Scan}
-use Rattle.scanner.specs.Scans.{scanAnswer, Found, Scans, namedText, valueTold, scalarText, scalarTold}
+use Rattle.scanner.specs.Scans.{scanAnswer, Found, Scans, valueTold, scalarTold}
 use Rattle.scanner.proofs.Numbers.{unfit-of}
 use Rattle.reader.specs.declared.cursor.Cursor.{Cursor}
 use Rattle.reader.specs.declared.cursor.Step.{Step}

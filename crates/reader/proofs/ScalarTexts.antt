@@ -7,9 +7,9 @@ use mathlib.Core.Logic.{⊎-elim}
 use Rattle.format.specs.Bytes.{bytes}
 use Rattle.format.specs.Kind.{Kind, keyKinds, mayBeKey, tag}
 use Rattle.format.specs.Syntax.{intKey, stringKey, int, string, Scalar, Literal, Quoted}
-use Rattle.format.specs.Read.{intText, quotedText, keyText}
+use Rattle.format.specs.Read.{intText, quotedText, keyText, scalarText}
 use Rattle.scanner.specs.declared.Scan.{Scan}
-use Rattle.scanner.specs.Scans.{Scans, scalarText, scalarBehind, literalTold, quotedTold, scalarTold}
+use Rattle.scanner.specs.Scans.{Scans, scalarBehind, literalTold, quotedTold, scalarTold}
 use Rattle.scanner.proofs.Numbers.{scans-map, scans-back, scans-same}
 use Rattle.reader.specs.Texts.{kindFor, scalarTag, keyTold}
 use Rattle.reader.proofs.Tagged.{one-of}

@@ -3,7 +3,8 @@ use format::kind::Kind;
 use scanner::Scan;
 ghost use Prim.Native.Nat.{_+_, _<_};
 ghost use lib.ListN.{length};
-ghost use Rattle.scanner.specs.Scans.{Scans, headText, headTold};
+ghost use Rattle.format.specs.Read.{headText};
+ghost use Rattle.scanner.specs.Scans.{Scans, headTold};
 ghost use Rattle.reader.specs.Texts.{isArrayTag, containerTag};
 
 // The head of a container whose tag stands at an index.

@@ -7,11 +7,11 @@ use mathlib.Core.List.{List, [], _∷_}
 use lib.Dec.{eqb, lit<}
 use Rattle.format.specs.Bytes.{byte}
 use Rattle.format.specs.Syntax.{array, object, Container, Spelling}
-use Rattle.format.specs.Read.{quotedText}
+use Rattle.format.specs.Read.{quotedText, countText, headText}
 use Rattle.scanner.specs.declared.Text.{Text}
 use Rattle.scanner.specs.declared.Scan.{Scan}
 use Rattle.bytes_at.specs.ByteAt.{byteAt}
-use Rattle.scanner.specs.Scans.{Found, Scans, countText, headText, tell, countTold, quotedTold, headTold}
+use Rattle.scanner.specs.Scans.{Found, Scans, tell, countTold, quotedTold, headTold}
 use Rattle.bytes_at.proofs.BytesAt.{expect-yes, expect-no}
 use Rattle.scanner.proofs.Numbers.{scans-is, scans-not, unfit-part, scans-part}
 

@@ -19,13 +19,13 @@ use Rattle.format.specs.Syntax.{Sign, unsigned, plus, minus, Literal, Spelling}
 use Rattle.format.specs.Keys.{integer}
 use Rattle.format.specs.Limits.{numberLimit, integerLimit, signOf}
 use Rattle.format.specs.Answer.{Answer, ok, refused, _>>=_}
-use Rattle.format.specs.Read.{expect, digits, number, intText}
+use Rattle.format.specs.Read.{expect, digits, number, intText, Reader, countText, namedText}
 use Rattle.format.specs.Table.{word}
 use Rattle.format.proofs.Answers.{ok-same, refused-same, not-both, bind-ok, bind-refused}
 use Rattle.scanner.specs.declared.Text.{Text}
 use Rattle.scanner.specs.declared.number.Front.{Front}
 use Rattle.scanner.specs.declared.Scan.{Scan}
-use Rattle.scanner.specs.Scans.{Reader, Told, scanAnswer, textAnswer, Found, Scans, Answers, countText, namedText, tell, valueTold, literalTold}
+use Rattle.scanner.specs.Scans.{Told, scanAnswer, textAnswer, Found, Scans, Answers, tell, valueTold, literalTold}
 use Rattle.scanner.specs.Scans.{countTold}
 use Rattle.scanner.specs.Parts.{digitsText, signedText, signedTold, isMinus, FrontIs}
 use Rattle.bytes_at.specs.ByteAt.{byteAt}

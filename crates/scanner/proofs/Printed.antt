@@ -10,9 +10,9 @@ use Rattle.format.specs.Syntax.{null, bool, int, float, string, array, object, 
 use Rattle.format.specs.Limits.{numberLimit}
 use Rattle.format.specs.Fits.{ScalarFits, ContainerFits}
 use Rattle.format.specs.Answer.{ok}
-use Rattle.format.specs.Read.{boolText}
+use Rattle.format.specs.Read.{boolText, countText, namedText, scalarText, headText}
 use Rattle.format.proofs.Printed.{number-printed, int-printed, quoted-printed, float-printed}
-use Rattle.scanner.specs.Scans.{countText, namedText, scalarText, scalarBehind, headText}
+use Rattle.scanner.specs.Scans.{scalarBehind}
 
 pub named-printed : (l : ℕ) (w : Spelling) (n : ℕ) (r : List ℕ) → n ≤ numberLimit → namedText l (byte ":" ∷ writeNumber w n (byte ";" ∷ r)) ≡ ok ((w, n), r)
 unfolding namedText

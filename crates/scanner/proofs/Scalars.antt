@@ -7,17 +7,17 @@ use Rattle.format.specs.Bytes.{byte, bytes}
 use Rattle.format.specs.Kind.{Kind, scalarKinds, tag}
 use Rattle.format.specs.Syntax.{null, bool, int, float, string}
 use Rattle.format.specs.Answer.{ok}
-use Rattle.format.specs.Read.{kindOf, expect, intText, quotedText, boolText, floatText}
+use Rattle.format.specs.Read.{kindOf, expect, intText, quotedText, boolText, floatText, Reader, scalarText}
 use Rattle.format.proofs.Answers.{bind-map}
 use Rattle.scanner.specs.declared.Scan.{Scan}
-use Rattle.scanner.specs.Scans.{Reader, Told, Scans, Answers, nullText, scalarText, scalarBehind, nothingTold, boolTold, literalTold, floatTold}
+use Rattle.scanner.specs.Scans.{Told, Scans, Answers, nullText, scalarBehind, nothingTold, boolTold, literalTold, floatTold}
 use Rattle.scanner.specs.Scans.{quotedTold, scalarTold}
 use Rattle.scanner.specs.Parts.{Sure}
 use Rattle.scanner.proofs.Numbers.{scans-not, scans-map, scans-same}
 
 module _ (s : List ℕ) (at b : ℕ) (r : Scan) where
   -- a tag's kind, where the code knows the tag
-  of-kind : (k : Kind) → ((l : ℕ) → kindOf scalarKinds 3 l b ≡ ok k) → Scans (scalarText k) (scalarTold at) s at r
+  of-kind : (k : Kind) → ((l : ℕ) → kindOf tag scalarKinds 3 l b ≡ ok k) → Scans (scalarText k) (scalarTold at) s at r
       → Scans (scalarBehind b) (scalarTold at) s at r
   unfolding scalarBehind
   of-kind k e h = scans-same (λ l s. rw (e l)) h

@@ -9,11 +9,11 @@ use Rattle.format.specs.Bytes.{byte, bytes}
 use Rattle.format.specs.Syntax.{Sign, unsigned, plus, minus}
 use Rattle.format.specs.Limits.{integerLimit, signOf, isFloat}
 use Rattle.format.specs.Answer.{ok, _>>=_}
-use Rattle.format.specs.Read.{expect, until, digits}
+use Rattle.format.specs.Read.{expect, until, digits, Reader}
 use Rattle.scanner.specs.declared.Text.{Text}
 use Rattle.scanner.specs.declared.Scan.{Scan}
 use Rattle.scanner.specs.declared.number.Front.{Front}
-use Rattle.scanner.specs.Scans.{Reader, Told, scanAnswer, Found, tell}
+use Rattle.scanner.specs.Scans.{Told, scanAnswer, Found, tell}
 
 -- a scan that is sure of a text that it finds: what it refuses may be one all the same
 pub record Sure {A : Type 0} (read : Reader A) (told : Told A) (s : List ℕ) (at : ℕ) (r : Scan) : Type 0 where

@@ -6,18 +6,14 @@ use Prim.Native.Nat.{ℕ, _+_, _-_, _≤_, _<_}
 use lib.ListN.{length, drop}
 use Rattle.format.specs.Bytes.{bytes}
 use Rattle.format.specs.Tree.{one}
-use Rattle.format.specs.Kind.{Kind, scalarKinds}
+use Rattle.format.specs.Kind.{scalarKinds, tag}
 use Rattle.format.specs.Syntax.{null, bool, int, float, string, Scalar, array, object, Spelling, Literal, Quoted, Container, writeNumber}
 use Rattle.format.specs.Keys.{integer}
 use Rattle.format.specs.Answer.{Answer, ok, refused, _>>=_}
-use Rattle.format.specs.Read.{kindOf, expect, number, intText, quotedText, boolText, floatText}
+use Rattle.format.specs.Read.{Reader, expect, scalarText, kindOf}
 use Rattle.format.specs.Table.{word}
 use Rattle.scanner.specs.declared.Text.{Text}
 use Rattle.scanner.specs.declared.Scan.{Scan}
-
--- what is read of a text behind a tag at `l`, and what is left
-abbrev pub Reader : Type 0 → Type 0
-Reader A = (l : ℕ) → List ℕ → Answer (A × List ℕ)
 
 -- what a text tells its node, the index after it being `next`
 abbrev pub Told : Type 0 → Type 0
@@ -59,47 +55,9 @@ nullText l s = do
   s₁ ← expect l (bytes ";") s
   ok (tt, s₁)
 
--- a count of pairs and the opening brace
-unfoldable pub countText : Reader (Spelling × ℕ)
-countText l s = do
-  (n, s₁) ← number l s
-  s₂ ← expect l (bytes ":{") s₁
-  ok (n, s₂)
-
--- the ordinal that a reference names
-unfoldable pub namedText : Reader (Spelling × ℕ)
-namedText l s = do
-  s₁ ← expect l (bytes ":") s
-  (n, s₂) ← number l s₁
-  s₃ ← expect l (bytes ";") s₂
-  ok (n, s₃)
-
--- what follows the tag of a scalar of this kind; other kinds are none
-unfoldable pub scalarText : Kind → Reader Scalar
-scalarText Kind.null l s = expect l (bytes ";") s >>= λ s₁. ok (null, s₁)
-scalarText Kind.bool l s = boolText l s >>= λ (b, s₁). ok (bool b, s₁)
-scalarText Kind.int l s = intText l s >>= λ (x, s₁). ok (int x, s₁)
-scalarText Kind.float l s = floatText l s >>= λ (t, s₁). ok (float t, s₁)
-scalarText Kind.string l s = quotedText l (bytes "\";") s >>= λ (q, s₁). ok (string q, s₁)
-scalarText Kind.array l s = refused 3 l
-scalarText Kind.object l s = refused 3 l
-scalarText Kind.objectReference l s = refused 3 l
-scalarText Kind.variableReference l s = refused 3 l
-
 -- what follows a tag, if it is a scalar's
 unfoldable pub scalarBehind : (tag : ℕ) → Reader Scalar
-scalarBehind b l s = kindOf scalarKinds 3 l b >>= λ k. scalarText k l s
-
--- what follows a container's tag, up to its first pair: the container and its count
-unfoldable pub headText : (ofArray : Bool) → Reader (Container × (Spelling × ℕ))
-headText true l s = do
-  s₁ ← expect l (bytes ":") s
-  (n, s₂) ← countText l s₁
-  ok ((array, n), s₂)
-headText false l s = do
-  (q, s₁) ← quotedText l (bytes "\":") s
-  (n, s₂) ← countText l s₁
-  ok ((object q, n), s₂)
+scalarBehind b l s = kindOf tag scalarKinds 3 l b >>= λ k. scalarText k l s
 
 -- ---- what they tell: words 2, 3 and 4
 

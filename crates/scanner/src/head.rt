@@ -6,7 +6,8 @@ use crate::quoted::quoted;
 use bytes_at::byte_is;
 use format::codes::TEXT_UNFIT;
 ghost use mathlib.Core.Bool.{true, false};
-ghost use Rattle.scanner.specs.Scans.{Answers, headText, headTold};
+ghost use Rattle.format.specs.Read.{headText};
+ghost use Rattle.scanner.specs.Scans.{Answers, headTold};
 
 // An array's count of pairs.
 pub fn array(source: &[u8], at: usize) -> Scan

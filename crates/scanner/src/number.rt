@@ -7,8 +7,8 @@ use format::codes::OUT_OF_RANGE;
 use format::codes::TEXT_UNFIT;
 use format::limits::NUMBER_LIMIT;
 ghost use Prim.Native.Nat.{_-_, _<_, _^_};
-ghost use Rattle.format.specs.Read.{intText};
-ghost use Rattle.scanner.specs.Scans.{Scans, Answers, countText, namedText, valueTold, literalTold, countTold};
+ghost use Rattle.format.specs.Read.{intText, countText, namedText};
+ghost use Rattle.scanner.specs.Scans.{Scans, Answers, valueTold, literalTold, countTold};
 ghost use Rattle.scanner.specs.Parts.{digitsText, signedText, signedTold, FrontIs};
 
 // The greatest magnitudes of an integer: with no sign or a `+`, and with a `-`.

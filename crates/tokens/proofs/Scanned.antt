@@ -12,8 +12,9 @@ use borrow.Author.Tests.{ne-eqb}
 use Rattle.format.specs.Bytes.{byte}
 use Rattle.format.specs.Kind.{Kind, tag}
 use Rattle.format.specs.Syntax.{objectRef, variableRef}
+use Rattle.format.specs.Read.{namedText, headText}
 use Rattle.scanner.specs.declared.Scan.{Scan}
-use Rattle.scanner.specs.Scans.{Scans, namedText, scalarBehind, headText, tell, valueTold, scalarTold, headTold}
+use Rattle.scanner.specs.Scans.{Scans, scalarBehind, tell, valueTold, scalarTold, headTold}
 use Rattle.scanner.proofs.Numbers.{scans-is, scans-not, scans-from, scans-map}
 use Rattle.tokens.specs.Tokens.{scalar, closing, openingOf, referenceOf, tokenBehind, readToken, tokenTold}
 

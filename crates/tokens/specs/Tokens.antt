@@ -15,7 +15,8 @@ use Rattle.format.specs.Fits.{ScalarFits, ContainerFits}
 use Rattle.format.specs.Edit.{raised}
 use Rattle.format.specs.Canonical.{canonicalScalar, canonicalHead, canonicalReference}
 use Rattle.format.specs.Answer.{ok, refused, _>>=_}
-use Rattle.scanner.specs.Scans.{Reader, Told, namedText, scalarBehind, headText, tell, scalarTold, headTold}
+use Rattle.format.specs.Read.{Reader, namedText, headText}
+use Rattle.scanner.specs.Scans.{Told, scalarBehind, tell, scalarTold, headTold}
 
 -- a scalar, be it a key or a value; a reference; a container's head with its count; the closing brace
 pub data Token : Type 0 where
