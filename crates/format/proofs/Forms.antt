@@ -396,7 +396,7 @@ module _ (form : Form) (terms : Terms) (source : List ℕ) (v : Value) where
       rw (
         le-leb (length source) sourceLimit (f .short),
         value-accepted (settingIn form terms source) tagged v depthLimit unseen 0 source [] (f .written) (f .fresh) (f .backward) (f .shallow)
-        (omega (arith, f .small)),
+            (omega (arith, f .small)),
       )
 
   -- WHAT IS ACCEPTED IS A WRITING OF A TREE THAT FITS

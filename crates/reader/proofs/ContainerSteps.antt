@@ -14,9 +14,10 @@ use Rattle.format.specs.Tree as tree
 use Rattle.format.specs.Tree.{branch, nodesIn, one}
 use Rattle.format.specs.Syntax.{array, object, Spelling, Container, Value, Values}
 use Rattle.format.specs.Answer.{Answer, ok, refused, _>>=_, codeOf}
-use Rattle.format.specs.Read.{expect, isArray, readPairs, setting, Inner, headText}
+use Rattle.format.specs.Read.{expect, headText, isArray, Inner, readPairs}
 use Rattle.format.specs.Table.{Node, words, width, endWord, flat, branchNode, pairsOffset, taken, table, tableIn}
-use Rattle.format.proofs.Inversion.{pairs-count}
+use Rattle.format.proofs.Forms.{pairs-count}
+use Rattle.format.proofs.Texts.{head-ok}
 use Rattle.scanner.specs.declared.Text.{Text}
 use Rattle.scanner.specs.declared.Scan.{Scan}
 use Rattle.bytes_at.specs.ByteAt.{byteAt}
@@ -26,9 +27,9 @@ use Rattle.scanner.proofs.Numbers.{unfit-of}
 use Rattle.reader.specs.declared.cursor.Cursor.{Cursor}
 use Rattle.reader.specs.Texts.{isArrayTag, containerKinds, containerTag}
 use Rattle.reader.specs.Nodes.{nodeOf, NodeOpened}
-use Rattle.reader.specs.Steps.{Points, Takes, TakesIn, Fit, KeptBelow, GoodValue, GoodPairs, TagAt, roomAt, valueAt, innerAt, pairsAt}
+use Rattle.reader.specs.Steps.{Points, Takes, TakesIn, Fit, KeptBelow, GoodValue, GoodPairs, TagAt, roomAt, settingAt, valueAt, innerAt, pairsAt}
 use Rattle.reader.proofs.Tagged.{passes}
-use Rattle.reader.proofs.Bodies.{pairsOf, body-head, head-array, head-node}
+use Rattle.reader.proofs.Bodies.{pairsOf, body-head, head-node}
 use Rattle.reader.proofs.HeadTexts.{head-written}
 use Rattle.reader.proofs.Stored.{node-around, run-kept, run-word, points-keep, points-kept, points-step}
 use Rattle.reader.proofs.Leaves.{room-there, gate-open, refused-by}
@@ -57,10 +58,10 @@ module _ (s : List ℕ) (capacity : ℕ) (c : Cursor) (b : ℕ) (here : TagAt s 
   abbrev given : Answer (Value × List ℕ)
   given = valueAt s capacity c
 
-  opened : given ≡ (headText (isArrayTag b) (c .at) (drop (c .at + 1) s) >>= pairsOf (setting capacity s) inner (c .at) (c .ordinal) (c .node))
+  opened : given ≡ (headText (isArrayTag b) (c .at) (drop (c .at + 1) s) >>= pairsOf (settingAt s capacity) inner (c .at) (c .ordinal) (c .node))
   opened =
       gate-open s capacity c b here containerKinds tt is room
-      ∙ body-head (setting capacity s) inner (c .at) (c .ordinal) (c .node) b (drop (c .at + 1) s) is
+      ∙ body-head (settingAt s capacity) inner (c .at) (c .ordinal) (c .node) b (drop (c .at + 1) s) is
 
   pub head-not : (scan : Scan) (code n : ℕ) → Scans (headText (isArrayTag b)) (headTold (c .at + 1)) s (c .at + 1) scan → scan ≡ Scan.Not code
       → n ≡ codeOf (scanAnswer 0 scan) → given ≡ refused n (c .at)
@@ -87,14 +88,14 @@ module _ (s : List ℕ) (capacity : ℕ) (c : Cursor) (b : ℕ) (here : TagAt s 
     count-is = link-told (f .what) (f .tells)
 
     of-array : isArray container ≡ isArrayTag b
-    of-array = head-array (isArrayTag b) (c .at) (drop (c .at + 1) s) (f .what, drop (x .next) s) (f .is (c .at))
+    of-array = head-ok (isArrayTag b) (c .at) (drop (c .at + 1) s) (f .what, drop (x .next) s) (f .is (c .at)) .container
 
-    same-pairs : readPairs (setting capacity s) inner (isArray container) (f .what .1 .1) [] (suc (c .ordinal)) (suc (c .node)) (drop (x .next) s) ≡ pairs
+    same-pairs : readPairs (settingAt s capacity) inner (isArray container) (f .what .1 .1) [] (suc (c .ordinal)) (suc (c .node)) (drop (x .next) s) ≡ pairs
     unfolding pairsAt
     same-pairs =
-        ap (λ (a : Bool). readPairs (setting capacity s) inner a (f .what .1 .1) [] (suc (c .ordinal)) (suc (c .node)) (drop (x .next) s)) of-array
-        ∙ ap (λ (n : ℕ). readPairs (setting capacity s) inner (isArrayTag b) n [] (suc (c .ordinal)) (suc (c .node)) (drop (x .next) s)) count-is
-        ∙ ap₂ (λ (n i : ℕ). readPairs (setting capacity s) inner (isArrayTag b) (x .link) [] n i (drop (x .next) s)) (sym (add-one (c .ordinal)))
+        ap (λ (a : Bool). readPairs (settingAt s capacity) inner a (f .what .1 .1) [] (suc (c .ordinal)) (suc (c .node)) (drop (x .next) s)) of-array
+        ∙ ap (λ (n : ℕ). readPairs (settingAt s capacity) inner (isArrayTag b) n [] (suc (c .ordinal)) (suc (c .node)) (drop (x .next) s)) count-is
+        ∙ ap₂ (λ (n i : ℕ). readPairs (settingAt s capacity) inner (isArrayTag b) (x .link) [] n i (drop (x .next) s)) (sym (add-one (c .ordinal)))
         (sym (add-one (c .node)))
 
     opened-pairs : given ≡ (pairs >>= shut)
@@ -141,7 +142,7 @@ module _ (s : List ℕ) (capacity : ℕ) (c : Cursor) (b : ℕ) (here : TagAt s 
 
         all : tree.count (g .pairs) ≡ x .link
         unfolding pairsAt
-        all = pairs-count (setting capacity s) inner (isArrayTag b) (x .link) [] (c .ordinal + 1) (c .node + 1) (drop (x .next) s) (
+        all = pairs-count (settingAt s capacity) inner (isArrayTag b) (x .link) [] (c .ordinal + 1) (c .node + 1) (drop (x .next) s) (
           g .pairs,
           drop (last .at) s,
         ) (g .is)

@@ -42,8 +42,8 @@ use Rattle.reader.proofs.Stored.{run-word}
 use Rattle.reader.proofs.Leaves.{refused-by}
 
 -- what the scan of a key says of its words
-module _ (s : List ℕ) (at b : ℕ) (may : mayBeKey b ≡ true) (here : at < length s) (tagged : getD s at 0 ≡ b) (x : Text)
-    (f : Found (keyText (kindFor b)) (keyTold (at + 1)) s (at + 1) x) where
+module _ (a : Bool) (s : List ℕ) (at b : ℕ) (may : mayBeKey b ≡ true) (here : at < length s) (tagged : getD s at 0 ≡ b) (x : Text)
+    (f : Found (keyText a (kindFor b)) (keyTold (at + 1)) s (at + 1) x) where
   which : KeyKind (kindFor b)
   unfolding kindFor
   which = ⊎-elim (λ e. is-int (rw e)) (λ o. ⊎-elim (λ e. is-string (rw e)) (λ z. absurd z) o) (one-of (keyKinds true) b may)
@@ -53,16 +53,16 @@ module _ (s : List ℕ) (at b : ℕ) (may : mayBeKey b ≡ true) (here : at < le
     where
       go : KeyKind (kindFor b) → keyKind (f .what) ≡ kindFor b
       go (is-int e) =
-          key-of-int 0 (drop (at + 1) s) (
+          key-of-int a 0 (drop (at + 1) s) (
             f .what,
             drop (x .next) s,
-          ) (subst (λ (k : Kind). keyText k 0 (drop (at + 1) s) ≡ ok (f .what, drop (x .next) s)) e (f .is 0))
+          ) (subst (λ (k : Kind). keyText a k 0 (drop (at + 1) s) ≡ ok (f .what, drop (x .next) s)) e (f .is 0))
           ∙ sym e
       go (is-string e) =
-          key-of-string 0 (drop (at + 1) s) (
+          key-of-string a 0 (drop (at + 1) s) (
             f .what,
             drop (x .next) s,
-          ) (subst (λ (k : Kind). keyText k 0 (drop (at + 1) s) ≡ ok (f .what, drop (x .next) s)) e (f .is 0))
+          ) (subst (λ (k : Kind). keyText a k 0 (drop (at + 1) s) ≡ ok (f .what, drop (x .next) s)) e (f .is 0))
           ∙ sym e
 
   tag-back : tag (kindFor b) ≡ b
@@ -76,7 +76,7 @@ module _ (s : List ℕ) (at b : ℕ) (may : mayBeKey b ≡ true) (here : at < le
       ∙ ap (nodeOf b 0 (suc i)) (sym (f .tells))
 
   written : tag (kindFor b) ∷ drop (at + 1) s ≡ writeKey (f .what) (drop (x .next) s)
-  written = keyText-ok (kindFor b) 0 (drop (at + 1) s) (f .what, drop (x .next) s) which (f .is 0) .text
+  written = keyText-ok a (kindFor b) 0 (drop (at + 1) s) (f .what, drop (x .next) s) which (f .is 0) .text
 
   at-key : drop at s ≡ writeKey (f .what) (drop (x .next) s)
   at-key =
@@ -99,7 +99,7 @@ module _ (s : List ℕ) (at b : ℕ) (may : mayBeKey b ≡ true) (here : at < le
       record {
         is = sym (ap tag kind-is ∙ tag-back);
         says = says (f .what) at-key (f .tells);
-        fits = keyText-ok (kindFor b) 0 (drop (at + 1) s) (f .what, drop (x .next) s) which (f .is 0) .fits;
+        fits = keyText-ok a (kindFor b) 0 (drop (at + 1) s) (f .what, drop (x .next) s) which (f .is 0) .fits;
       }
 
 -- ---- the words of a key that is added
@@ -145,8 +145,11 @@ module _ (s : List ℕ) (capacity container : ℕ) (c : Cursor) (earlier : List 
   abbrev given : Answer (Key × List ℕ)
   given = keyAt s capacity container earlier c
 
+  abbrev a : Bool
+  a = isArrayTag container
+
   abbrev among : List Kind
-  among = keyKinds (isArrayTag container)
+  among = keyKinds a
 
   abbrev l : ℕ
   l = length s - length (drop (c .at) s)
@@ -173,29 +176,29 @@ module _ (s : List ℕ) (capacity container : ℕ) (c : Cursor) (earlier : List 
         abbrev rest : Key × List ℕ → Answer (Key × List ℕ)
         rest (k, s₂) = require (not (hasKey k earlier)) 9 (c .at) >>= λ u. ok (k, s₂)
 
-        opened : given ≡ (keyText (kindFor b) (c .at) (drop (c .at + 1) s) >>= rest)
+        opened : given ≡ (keyText a (kindFor b) (c .at) (drop (c .at + 1) s) >>= rest)
         unfolding keyAt readKey
         opened = rw (
           readKey,
           tag-is among 4 l s (c .at) b h q e,
-          key-kind-is (isArrayTag container) b e,
+          key-kind-is a b e,
           lt-ltb (c .node) capacity room,
           position-is s (c .at) inside,
         )
 
-        pub key-not : (scan : Scan) (code n : ℕ) → Scans (keyText (kindFor b)) (keyTold (c .at + 1)) s (c .at + 1) scan → scan ≡ Scan.Not code
+        pub key-not : (scan : Scan) (code n : ℕ) → Scans (keyText a (kindFor b)) (keyTold (c .at + 1)) s (c .at + 1) scan → scan ≡ Scan.Not code
             → n ≡ codeOf (scanAnswer 0 scan) → given ≡ refused n (c .at)
         key-not scan code n k g z = refused-by scan code n (c .at) given g z (opened ∙ rw (unfit-of k g (c .at)))
 
-        module _ (x : Text) (f : Found (keyText (kindFor b)) (keyTold (c .at + 1)) s (c .at + 1) x) where
+        module _ (x : Text) (f : Found (keyText a (kindFor b)) (keyTold (c .at + 1)) s (c .at + 1) x) where
           pub key-twice : hasKey (f .what) earlier ≡ true → given ≡ refused 9 (c .at)
           key-twice g = opened ∙ rw (f .is (c .at), g)
 
           may : mayBeKey b ≡ true
-          may = key-any (isArrayTag container) b e
+          may = key-any a b e
 
           key-held : Held s (f .what) (record { tag = b; content = x .content; size = x .size })
-          key-held = held-of s (c .at) b may h q x f
+          key-held = held-of a s (c .at) b may h q x f
 
           pub key-good : (t t′ : List ℕ) (c′ : Cursor) → Fit s t capacity c → hasKey (f .what) earlier ≡ false → NodeAdded t t′ c b x false c′
               → GoodKey s t t′ capacity c given c′
@@ -210,6 +213,6 @@ module _ (s : List ℕ) (capacity container : ℕ) (c : Cursor) (earlier : List 
                 ordinal = add-zero (c .ordinal);
                 levels = refl;
                 table = p .table ∙ ap (λ (n : ℕ). sets t (c .node * width) (words (nodeOf b 0 n x))) (add-one (c .node))
-                    ∙ ap (λ (n : Node). sets t (c .node * width) (words n)) (sym (key-node s (c .at) b may h q x f (c .node)));
+                    ∙ ap (λ (n : Node). sets t (c .node * width) (words n)) (sym (key-node a s (c .at) b may h q x f (c .node)));
                 held = subst (Held s (f .what)) (sym (added-words t t′ c c′ b x (omega arith) p)) key-held;
               })

@@ -14,7 +14,7 @@ use Rattle.format.specs.Tree.{leaf, ref, nodes, ordinals, one}
 use Rattle.format.specs.Syntax.{Reference, Value, own}
 use Rattle.format.specs.Limits.{Seen}
 use Rattle.format.specs.Answer.{Answer, ok, refused, _>>=_, require, codeOf}
-use Rattle.format.specs.Read.{setting, readBody, readValue, namedText, scalarText}
+use Rattle.format.specs.Read.{scalarText, namedText, readBody, readValue}
 use Rattle.format.specs.Table.{Node, words, width, flat, refNode, taken, table}
 use Rattle.format.proofs.Answers.{bind-ok, require-ok}
 use Rattle.format.proofs.Tags.{all}
@@ -27,7 +27,7 @@ use Rattle.reader.specs.declared.cursor.Step.{Step}
 use Rattle.reader.specs.declared.cursor.Gate.{Gate}
 use Rattle.reader.specs.Texts.{kindFor, OneOf, scalarTag, referenceKinds, referenceTag}
 use Rattle.reader.specs.Nodes.{nodeOf, NodeAdded, CarrierIn}
-use Rattle.reader.specs.Steps.{Points, Takes, Fit, KeptBelow, GoodValue, Meets, TagAt, roomAt, gateAnswer, valueAt, innerAt}
+use Rattle.reader.specs.Steps.{Points, Takes, Fit, KeptBelow, GoodValue, Meets, TagAt, roomAt, gateAnswer, settingAt, valueAt, innerAt}
 use Rattle.reader.proofs.Tagged.{position-is, tag-end, tag-other, tag-is, passes}
 use Rattle.reader.proofs.Bodies.{body-scalar, scalar-node, refFor, resolved, body-reference, ref-tag}
 use Rattle.reader.proofs.Stored.{run-kept, run-word, points-kept, points-add, link-is}
@@ -39,7 +39,7 @@ module _ (s : List ℕ) (capacity at node : ℕ) (seen : Seen) where
   l = length s - length (drop at s)
 
   abbrev reads : ℕ → Answer (Value × List ℕ)
-  reads levels = readValue (setting capacity s) levels seen node (drop at s)
+  reads levels = readValue (settingAt s capacity) levels seen node (drop at s)
 
   at-end : (levels : ℕ) → length s ≤ at → at ≤ length s → reads levels ≡ refused 2 at
   at-end zero h i = rw (tag-end kinds 3 l s at h, position-is s at i)
@@ -54,7 +54,7 @@ module _ (s : List ℕ) (capacity at node : ℕ) (seen : Seen) where
     at-other (suc d) n = rw (tag-other kinds 3 l s at b h q n, position-is s at here)
 
     abbrev body : (levels : ℕ) → Answer (Value × List ℕ)
-    body levels = readBody (setting capacity s) (readValue (setting capacity s) (levels - 1)) (kindFor b) at seen node (drop (at + 1) s)
+    body levels = readBody (settingAt s capacity) (readValue (settingAt s capacity) (levels - 1)) (kindFor b) at seen node (drop (at + 1) s)
 
     at-known : isTagOf kinds b ≡ true → (levels : ℕ)
         → reads levels ≡ ((require (ltb 0 levels) 8 at >>= λ u. require (ltb node capacity) 7 at) >>= λ u. body levels)
@@ -102,7 +102,7 @@ module _ (s : List ℕ) (capacity : ℕ) (c : Cursor) where
     -- of one of some kinds
     module _ (ks : List Kind) (taken : T (all ks (isTagOf kinds))) (is : OneOf ks b) where
       abbrev rest : Answer (Value × List ℕ)
-      rest = readBody (setting capacity s) (innerAt s capacity (c .levels - 1)) (kindFor b) (c .at) (c .ordinal) (c .node) (drop (c .at + 1) s)
+      rest = readBody (settingAt s capacity) (innerAt s capacity (c .levels - 1)) (kindFor b) (c .at) (c .ordinal) (c .node) (drop (c .at + 1) s)
 
       checked : valueAt s capacity c ≡ (roomAt capacity c >>= λ u. rest)
       unfolding valueAt innerAt roomAt
@@ -185,7 +185,7 @@ module _ (s : List ℕ) (capacity : ℕ) (c : Cursor) (b : ℕ) (here : TagAt s 
   opened : valueAt s capacity c ≡ (scalarText (kindFor b) (c .at) (drop (c .at + 1) s) >>= λ q. ok (leaf (q .0), q .1))
   opened =
       gate-open s capacity c b here scalarKinds tt is room
-      ∙ body-scalar (setting capacity s) (innerAt s capacity (c .levels - 1)) b (c .at) (c .ordinal) (c .node) (drop (c .at + 1) s) is
+      ∙ body-scalar (settingAt s capacity) (innerAt s capacity (c .levels - 1)) b (c .at) (c .ordinal) (c .node) (drop (c .at + 1) s) is
 
   pub scalar-not : (scan : Scan) (code n : ℕ) → Scans (scalarText (kindFor b)) (scalarTold (c .at + 1)) s (c .at + 1) scan
       → scan ≡ Scan.Not code → n ≡ codeOf (scanAnswer 0 scan) → valueAt s capacity c ≡ refused n (c .at)
@@ -211,7 +211,7 @@ module _ (s : List ℕ) (capacity : ℕ) (c : Cursor) (b : ℕ) (here : TagAt s 
   named-at : valueAt s capacity c ≡ (namedText (c .at) (drop (c .at + 1) s) >>= resolved (refFor b) (c .at) (c .ordinal))
   named-at =
       gate-open s capacity c b here referenceKinds tt is room
-      ∙ body-reference (setting capacity s) (innerAt s capacity (c .levels - 1)) b (c .at) (c .ordinal) (c .node) (drop (c .at + 1) s) is
+      ∙ body-reference (settingAt s capacity) (innerAt s capacity (c .levels - 1)) b (c .at) (c .ordinal) (c .node) (drop (c .at + 1) s) is
 
   pub reference-not : (scan : Scan) (code n : ℕ) → Scans namedText valueTold s (c .at + 1) scan → scan ≡ Scan.Not code → n ≡ codeOf (scanAnswer 0 scan)
       → valueAt s capacity c ≡ refused n (c .at)

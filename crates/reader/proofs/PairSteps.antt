@@ -14,7 +14,7 @@ use Rattle.format.specs.Tree.{leaf, ref, branch, nodes, nodesIn, ordinals, ordi
 use Rattle.format.specs.Syntax.{intKey, stringKey, Key, Value, Values, own, write, writePairs}
 use Rattle.format.specs.Keys.{sameKey, hasKey}
 use Rattle.format.specs.Answer.{Answer, ok, refused, _>>=_}
-use Rattle.format.specs.Read.{readPairs, setting}
+use Rattle.format.specs.Read.{readPairs}
 use Rattle.format.specs.Table.{words, width, wordAt, endWord, pairEnd, flat, keyNode, valueOffset, table, tableIn}
 use Rattle.format.proofs.Inversion.{key-written, value-written}
 use Rattle.format.proofs.Results.{flat-length}
@@ -29,7 +29,7 @@ use Rattle.keys.specs.KeyWords.{keyWordsAt, keyWordsIn, Held}
 use Rattle.reader.specs.Texts.{isArrayTag}
 use Rattle.reader.specs.KeysSeen.{Chain, none, pair, Walk, Known, next}
 use Rattle.reader.specs.Steps.{Points, Takes, TakesIn, Fit, KeptBelow, WroteIn, GoodValue, GoodPairs, GoodKey, MeetsPairs, Earlier, Remembers, innerAt}
-use Rattle.reader.specs.Steps.{stepAnswer, valueAt, pairsAt, keyAt}
+use Rattle.reader.specs.Steps.{stepAnswer, termsAt, settingAt, valueAt, pairsAt, keyAt}
 use Rattle.key_filter.proofs.Marking.{grows-none, grows-on}
 use Rattle.reader.proofs.KeyLaws.{chain-le, known-grows}
 use Rattle.reader.proofs.Snoc.{snoc, onto, onto-none, onto-done, onto-refused, onto-snoc, nodes-snoc, ordinals-snoc, key-adds, write-adds, length-snoc}
@@ -64,7 +64,7 @@ chain-more {t = t} t′ k m same h e l (pair {i = i} {k = j} a b o c) =
 
 unfoldable restAt : (s : List ℕ) (capacity container levels more : ℕ) → List Key → Cursor → Answer (Values × List ℕ)
 restAt s capacity container levels more earlier c =
-    readPairs (setting capacity s) (innerAt s capacity levels) (isArrayTag container) more earlier (c .ordinal) (c .node) (drop (c .at) s)
+    readPairs (settingAt s capacity) (innerAt s capacity levels) (isArrayTag container) more earlier (c .ordinal) (c .node) (drop (c .at) s)
 
 pub record Run (s t₀ t m₀ m : List ℕ) (capacity container count : ℕ) (c₀ c : Cursor) (more : ℕ) (seen : Seen) : Type 0 where
   pub pairs : Values
@@ -140,7 +140,7 @@ module _ {s t₀ t m₀ m : List ℕ} {capacity container count : ℕ} {c₀ c :
     run-key-bad code at e = rest-bad code at (go more some)
       where
         go : (m : ℕ) → 0 < m
-            → readPairs (setting capacity s) (innerAt s capacity (c₀ .levels)) (isArrayTag container) m (r .earlier) (c .ordinal) (c .node)
+            → readPairs (settingAt s capacity) (innerAt s capacity (c₀ .levels)) (isArrayTag container) m (r .earlier) (c .ordinal) (c .node)
             (drop (c .at) s) ≡ refused code at
         go zero h = absurd (omega arith)
         go (suc m) h = rw e
@@ -159,7 +159,7 @@ module _ {s t₀ t m₀ m : List ℕ} {capacity container count : ℕ} {c₀ c :
       run-value-bad code at e = rest-bad code at (go more some)
         where
           go : (m : ℕ) → 0 < m
-              → readPairs (setting capacity s) (innerAt s capacity (c₀ .levels)) (isArrayTag container) m (r .earlier) (c .ordinal) (c .node)
+              → readPairs (settingAt s capacity) (innerAt s capacity (c₀ .levels)) (isArrayTag container) m (r .earlier) (c .ordinal) (c .node)
               (drop (c .at) s) ≡ refused code at
           go zero h = absurd (omega arith)
           go (suc m) h = rw (k .is, value-is, e)
@@ -170,7 +170,7 @@ module _ {s t₀ t m₀ m : List ℕ} {capacity container count : ℕ} {c₀ c :
       key-long : mid .at ≡ valueOffset (c .at) (k .key)
       unfolding keyAt
       key-long =
-          let w = key-written (setting capacity s) (isArrayTag container) (r .earlier) (c .node) (drop (c .at) s) (k .key, drop (mid .at) s) (k .is) in
+          let w = key-written (termsAt capacity) s (isArrayTag container) (r .earlier) (c .node) (drop (c .at) s) (k .key, drop (mid .at) s) (k .is) in
           let f = r .fit in
           omega (arith, ap length w, key-adds (k .key) (drop (mid .at) s), length-drop (c .at) s, length-drop (mid .at) s, k .inside, k .on)
 
@@ -182,7 +182,7 @@ module _ {s t₀ t m₀ m : List ℕ} {capacity container count : ℕ} {c₀ c :
         value-long : after .at ≡ mid .at + length (write (g .value) [])
         unfolding valueAt
         value-long =
-            let w = value-written (setting capacity s) (mid .levels) (mid .ordinal) (mid .node) (drop (mid .at) s) (g .value, drop (after .at) s) (g .is) in
+            let w = value-written (termsAt capacity) s (mid .levels) (mid .ordinal) (mid .node) (drop (mid .at) s) (g .value, drop (after .at) s) (g .is) in
             omega (
               arith,
               ap length w,
@@ -200,8 +200,8 @@ module _ {s t₀ t m₀ m : List ℕ} {capacity container count : ℕ} {c₀ c :
         rest-good = go more some
           where
             go : (m : ℕ) → 0 < m
-                → readPairs (setting capacity s) (innerAt s capacity (c₀ .levels)) (isArrayTag container) m (r .earlier) (c .ordinal) (c .node) (drop (c .at) s)
-                ≡ (readPairs (setting capacity s) (innerAt s capacity (c₀ .levels)) (isArrayTag container) (m - 1) (k .key ∷ r .earlier) (after .ordinal)
+                → readPairs (settingAt s capacity) (innerAt s capacity (c₀ .levels)) (isArrayTag container) m (r .earlier) (c .ordinal) (c .node) (drop (c .at) s)
+                ≡ (readPairs (settingAt s capacity) (innerAt s capacity (c₀ .levels)) (isArrayTag container) (m - 1) (k .key ∷ r .earlier) (after .ordinal)
                 (after .node) (drop (after .at) s)
                 >>= λ q. ok (tree.pair (k .key) (g .value) (q .0), q .1))
             go zero h = absurd (omega arith)

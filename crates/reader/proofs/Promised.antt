@@ -6,10 +6,11 @@ use native.Mathlib.Omega.{arith}
 use lib.ListN.{length}
 use Rattle.format.specs.Tree.{nodes, ordinals}
 use Rattle.format.specs.Syntax.{Value, own}
+use Rattle.format.specs.Limits.{Terms}
 use Rattle.format.specs.Answer.{Answer, ok, refused, _>>=_}
 use Rattle.format.specs.Read.{read}
 use Rattle.format.specs.Table.{width}
-use Rattle.format.specs.Reading.{capacityOf, Counts, answer}
+use Rattle.format.specs.Reading.{termsOf, Counts, answer}
 use Rattle.format.proofs.Answers.{ok-same, not-both}
 use Rattle.format.proofs.Inversion.{read-ok}
 use Rattle.format.proofs.Results.{after-length}
@@ -20,26 +21,26 @@ abbrev counts : Value → Answer Counts
 counts v = ok (record { nodes = nodes v; ordinals = ordinals own v })
 
 -- the value that was read, and its counts
-pub record Took (capacity : ℕ) (source : List ℕ) (n : Counts) : Type 0 where
+pub record Took (terms : Terms) (source : List ℕ) (n : Counts) : Type 0 where
   pub value : Value
-  pub read : read capacity source ≡ ok value
+  pub read : read terms source ≡ ok value
   pub counted : n ≡ record { nodes = nodes value; ordinals = ordinals own value }
 
-took : (capacity : ℕ) (source : List ℕ) (n : Counts) (a : Answer Value) → read capacity source ≡ a → ok n ≡ (a >>= counts) → Took capacity source n
-took capacity source n (ok v) r e = record { value = v; read = r; counted = ok-same e }
-took capacity source n (refused code at) r e = absurd (not-both (sym e))
+took : (terms : Terms) (source : List ℕ) (n : Counts) (a : Answer Value) → read terms source ≡ a → ok n ≡ (a >>= counts) → Took terms source n
+took terms source n (ok v) r e = record { value = v; read = r; counted = ok-same e }
+took terms source n (refused code at) r e = absurd (not-both (sym e))
 
 pub accepted : {source before after : List ℕ} {nodes ordinals : ℕ} → Reads source before after (Reading.Accepted nodes ordinals)
-    → Took (capacityOf before) source (record { nodes = nodes; ordinals = ordinals })
+    → Took (termsOf before) source (record { nodes = nodes; ordinals = ordinals })
 unfolding answer readingAnswer
-accepted {source} {before} reads = took (capacityOf before) source _ (read (capacityOf before) source) refl (reads .answer)
+accepted {source} {before} reads = took (termsOf before) source _ (read (termsOf before) source) refl (reads .answer)
 
 -- what an acceptance counts stands in the table: so many nodes
 pub counted : (source before after : List ℕ) (nodes ordinals : ℕ) → Reads source before after (Reading.Accepted nodes ordinals) → nodes * width ≤ length after
 counted source before after nodes ordinals reads =
     let t = accepted reads in
-    let small = read-ok (capacityOf before) source (t .value) (t .read) .fits .small in
-    omega (arith, small, ap (λ (c : Counts). c .nodes) (t .counted), ap length (reads .table) ∙ after-length source before)
+    let small = read-ok (termsOf before) source (t .value) (t .read) .fits .small in
+    omega (arith, small, ap (λ (c : Counts). c .nodes) (t .counted), ap length (reads .table) ∙ after-length (termsOf before) source before (omega arith))
 
 stopped : (a : Answer Value) (code at : ℕ) → refused code at ≡ (a >>= counts) → a ≡ refused code at
 stopped (ok v) code at e = absurd (not-both e)
@@ -49,6 +50,6 @@ stopped (refused c p) code at e = same e
     same e = cc
 
 pub refusal : {source before after : List ℕ} {code at : ℕ} → Reads source before after (Reading.Refused code at)
-    → read (capacityOf before) source ≡ refused code at
+    → read (termsOf before) source ≡ refused code at
 unfolding answer readingAnswer
-refusal {source} {before} {after} {code} {at} reads = stopped (read (capacityOf before) source) code at (reads .answer)
+refusal {source} {before} {after} {code} {at} reads = stopped (read (termsOf before) source) code at (reads .answer)

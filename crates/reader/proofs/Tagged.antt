@@ -30,19 +30,19 @@ first-not : (k : Kind) (b : ℕ) → eqb b (tag k) ≡ false → eqb (tag k) b �
 first-not k b e = ne-eqb (tag k) b (λ q. eqb-false b (tag k) e (sym q))
 
 -- a tag of one of them is its kind's, and any other is refused
-kind-yes : (ks : List Kind) (code at b : ℕ) → isTagOf ks b ≡ true → kindOf ks code at b ≡ ok (among ks b)
+kind-yes : (ks : List Kind) (code at b : ℕ) → isTagOf ks b ≡ true → kindOf tag ks code at b ≡ ok (among ks b)
 kind-yes [] code at b e = absurd (true≢false (sym e))
 kind-yes (k ∷ ks) code at b e = go (test (eqb b (tag k))) (λ d. kind-yes ks code at b d)
   where
-    go : Test (eqb b (tag k)) → (isTagOf ks b ≡ true → kindOf ks code at b ≡ ok (among ks b)) → kindOf (k ∷ ks) code at b ≡ ok (among (k ∷ ks) b)
+    go : Test (eqb b (tag k)) → (isTagOf ks b ≡ true → kindOf tag ks code at b ≡ ok (among ks b)) → kindOf tag (k ∷ ks) code at b ≡ ok (among (k ∷ ks) b)
     go (passed t) r = rw (first-is k b t, kindOf, among)
     go (failed t) r = rw (first-not k b t, kindOf, among) (r (rw t at e))
 
-kind-no : (ks : List Kind) (code at b : ℕ) → isTagOf ks b ≡ false → kindOf ks code at b ≡ refused code at
+kind-no : (ks : List Kind) (code at b : ℕ) → isTagOf ks b ≡ false → kindOf tag ks code at b ≡ refused code at
 kind-no [] code at b e = refl
 kind-no (k ∷ ks) code at b e = go (test (eqb b (tag k))) (λ d. kind-no ks code at b d)
   where
-    go : Test (eqb b (tag k)) → (isTagOf ks b ≡ false → kindOf ks code at b ≡ refused code at) → kindOf (k ∷ ks) code at b ≡ refused code at
+    go : Test (eqb b (tag k)) → (isTagOf ks b ≡ false → kindOf tag ks code at b ≡ refused code at) → kindOf tag (k ∷ ks) code at b ≡ refused code at
     go (passed t) r = absurd (true≢false (rw t at e))
     go (failed t) r = rw (first-not k b t, kindOf) (r (rw t at e))
 
@@ -70,18 +70,18 @@ not-one [] b e o = o
 
 -- ---- the tag at an index
 
-pub tag-end : (ks : List Kind) (code l : ℕ) (s : List ℕ) (i : ℕ) → length s ≤ i → tagOf ks code l (drop i s) ≡ refused 2 l
-tag-end ks code l s i h = ap (tagOf ks code l) (drop-of-length-le s h)
+pub tag-end : (ks : List Kind) (code l : ℕ) (s : List ℕ) (i : ℕ) → length s ≤ i → tagOf tag ks code l (drop i s) ≡ refused 2 l
+tag-end ks code l s i h = ap (tagOf tag ks code l) (drop-of-length-le s h)
 
 tag-here : (ks : List Kind) (code l : ℕ) (s : List ℕ) (i : ℕ) → i < length s
-    → tagOf ks code l (drop i s) ≡ (kindOf ks code l (getD s i 0) >>= λ k. ok (k, drop (i + 1) s))
-tag-here ks code l s i h = ap (tagOf ks code l) (drop-cons s i 0 h ∙ ap (λ (k : ℕ). getD s i 0 ∷ drop k s) (sym (add-one i)))
+    → tagOf tag ks code l (drop i s) ≡ (kindOf tag ks code l (getD s i 0) >>= λ k. ok (k, drop (i + 1) s))
+tag-here ks code l s i h = ap (tagOf tag ks code l) (drop-cons s i 0 h ∙ ap (λ (k : ℕ). getD s i 0 ∷ drop k s) (sym (add-one i)))
 
 module _ (ks : List Kind) (code l : ℕ) (s : List ℕ) (i b : ℕ) (h : i < length s) (q : getD s i 0 ≡ b) where
-  pub tag-other : isTagOf ks b ≡ false → tagOf ks code l (drop i s) ≡ refused code l
+  pub tag-other : isTagOf ks b ≡ false → tagOf tag ks code l (drop i s) ≡ refused code l
   tag-other e = tag-here ks code l s i h ∙ rw (q, kind-no ks code l b e)
 
-  pub tag-is : isTagOf ks b ≡ true → tagOf ks code l (drop i s) ≡ ok (among ks b, drop (i + 1) s)
+  pub tag-is : isTagOf ks b ≡ true → tagOf tag ks code l (drop i s) ≡ ok (among ks b, drop (i + 1) s)
   tag-is e = tag-here ks code l s i h ∙ rw (q, kind-yes ks code l b e)
 
 -- ---- the kinds of keys

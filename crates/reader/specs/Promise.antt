@@ -3,7 +3,7 @@ use mathlib.Core.Path.{_≡_}
 use mathlib.Core.List.{List}
 use Prim.Native.Nat.{ℕ}
 use Rattle.format.specs.Answer.{Answer, ok, refused}
-use Rattle.format.specs.Reading.{capacityOf, Counts, answer, tableAfter}
+use Rattle.format.specs.Reading.{termsOf, Counts, answer, tableAfter}
 use Rattle.reader.specs.declared.Reading.{Reading}
 
 -- the paper's number and values for each case of the enum:
@@ -14,5 +14,5 @@ readingAnswer (Reading.Refused code at) = refused code at
 
 -- demands 1 and 2 for reading: the answer, and every word of the table, for every source and every table
 pub record Reads (source before after : List ℕ) (r : Reading) : Type 0 where
-  pub answer : readingAnswer r ≡ answer (capacityOf before) source
-  pub table : after ≡ tableAfter source before
+  pub answer : readingAnswer r ≡ answer (termsOf before) source
+  pub table : after ≡ tableAfter (termsOf before) source before

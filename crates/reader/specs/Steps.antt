@@ -8,8 +8,9 @@ use lib.Seq.{sets}
 use Rattle.format.specs.Tree.{leaf, ref, branch, none, pair, nodes, nodesIn, ordinals, ordinalsIn}
 use Rattle.format.specs.Syntax.{Key, Value, Values, own}
 use Rattle.format.specs.Keys.{hasKey}
+use Rattle.format.specs.Limits.{Terms}
 use Rattle.format.specs.Answer.{Answer, ok, refused, _>>=_, require}
-use Rattle.format.specs.Read.{setting, Inner, readKey, readPairs, readValue, read}
+use Rattle.format.specs.Read.{Setting, setting, Inner, readKey, readPairs, readValue, read}
 use Rattle.format.specs.Table.{words, width, wordAt, ordinalWord, endWord, flat, keyNode, table, tableIn, tableOf}
 use Rattle.reader.specs.declared.cursor.Cursor.{Cursor}
 use Rattle.reader.specs.declared.cursor.Step.{Step}
@@ -41,12 +42,19 @@ abbrev mutual
 
 -- ---- reading at a cursor
 
+-- what the cycle goes by
+abbrev pub termsAt : (capacity : ℕ) → Terms
+termsAt capacity = record { capacity = capacity }
+
+abbrev pub settingAt : (s : List ℕ) (capacity : ℕ) → Setting
+settingAt s capacity = setting (termsAt capacity) s
+
 -- a value with so many levels left
 unfoldable pub innerAt : (s : List ℕ) (capacity levels : ℕ) → Inner
-innerAt s capacity levels seen before rest = readValue (setting capacity s) levels seen before rest
+innerAt s capacity levels seen before rest = readValue (settingAt s capacity) levels seen before rest
 
 unfoldable pub valueAt : (s : List ℕ) (capacity : ℕ) → Cursor → Answer (Value × List ℕ)
-valueAt s capacity c = readValue (setting capacity s) (c .levels) (c .ordinal) (c .node) (drop (c .at) s)
+valueAt s capacity c = readValue (settingAt s capacity) (c .levels) (c .ordinal) (c .node) (drop (c .at) s)
 
 -- the tag of a value
 pub record TagAt (s : List ℕ) (c : Cursor) (tag : ℕ) : Type 0 where
@@ -62,10 +70,10 @@ roomAt capacity c = do
 -- so many pairs of a container with this tag
 unfoldable pub pairsAt : (s : List ℕ) (capacity container count : ℕ) → Cursor → Answer (Values × List ℕ)
 pairsAt s capacity container count c =
-    readPairs (setting capacity s) (innerAt s capacity (c .levels)) (isArrayTag container) count [] (c .ordinal) (c .node) (drop (c .at) s)
+    readPairs (settingAt s capacity) (innerAt s capacity (c .levels)) (isArrayTag container) count [] (c .ordinal) (c .node) (drop (c .at) s)
 
 unfoldable pub keyAt : (s : List ℕ) (capacity container : ℕ) → (earlier : List Key) → Cursor → Answer (Key × List ℕ)
-keyAt s capacity container earlier c = readKey (setting capacity s) (isArrayTag container) earlier (c .node) (drop (c .at) s)
+keyAt s capacity container earlier c = readKey (settingAt s capacity) (isArrayTag container) earlier (c .node) (drop (c .at) s)
 
 -- ---- the answers of the steps
 
@@ -173,11 +181,11 @@ pub record Remembers (s t t′ m m′ : List ℕ) (first node : ℕ) (seen : See
 
 pub record GoodWhole (s t t′ : List ℕ) (capacity : ℕ) (c : Cursor) : Type 0 where
   pub value : Value
-  pub is : read capacity s ≡ ok value
+  pub is : read (termsAt capacity) s ≡ ok value
   pub node : c .node ≡ nodes value
   pub fits : c .node ≤ capacity
   pub ordinal : c .ordinal ≡ ordinals own value
   pub table : t′ ≡ sets t 0 (flat (tableOf value))
 
 abbrev pub Whole : (s t t′ : List ℕ) (capacity : ℕ) → Step → Type 0
-Whole s t t′ capacity r = GoodOr (GoodWhole s t t′ capacity) (read capacity s) (stepAnswer r)
+Whole s t t′ capacity r = GoodOr (GoodWhole s t t′ capacity) (read (termsAt capacity) s) (stepAnswer r)

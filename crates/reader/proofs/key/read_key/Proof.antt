@@ -48,8 +48,8 @@ module _ (scanned : tie.After-key) where
   any : mayBeKey tag ≡ true
   any = tagged.key-any (isArrayTag (start .args .container)) tag may
 
-  told : Scans (keyText (kindFor tag)) (keyTold (at + 1)) source (at + 1) (scanned .key .result)
-  told = key-behind _ _ _ _ any (scanned .key .ensures .scans)
+  told : Scans (keyText (isArrayTag (start .args .container)) (kindFor tag)) (keyTold (at + 1)) source (at + 1) (scanned .key .result)
+  told = key-behind _ _ _ _ _ any (scanned .key .ensures .scans)
 
 returns : tie.Need-returns
 returns c =
@@ -130,7 +130,7 @@ returns-5 c =
     let found = tested .before .before .before .before in
     let scanned = found .before .before in
     let is = found-of (told scanned) (found .scan .given .1) in
-    let held = steps.held-of _ _ _ (any scanned) (inside scanned .if1 .left) refl _ is in (
+    let held = steps.held-of _ _ _ _ (any scanned) (inside scanned .if1 .left) refl _ is in (
       λ earlier e.
           let twice = e .same _ ∙ sym (tested .key-seen .ensures .answer _ _ held (e .chain) (e .known)) ∙ c .if4 .taken in
           steps.key-twice _ _ _ _ earlier _ (inside scanned .if1 .left) refl (may scanned) (room scanned .if3 .left) _ is twice,
@@ -155,7 +155,7 @@ returns-6 c =
     let scanned = found .before .before in
     let fit = start scanned .pre .0 in
     let is = found-of (told scanned) (found .scan .given .1) in
-    let held = steps.held-of _ _ _ (any scanned) (inside scanned .if1 .left) refl _ is in (
+    let held = steps.held-of _ _ _ _ (any scanned) (inside scanned .if1 .left) refl _ is in (
       λ earlier e.
           let once = e .same _ ∙ sym (tested .key-seen .ensures .answer _ _ held (e .chain) (e .known)) ∙ new .if4 .left in
           steps.key-good _ _ _ _ earlier _ (inside scanned .if1 .left) refl (may scanned) (room scanned .if3 .left) _ is
