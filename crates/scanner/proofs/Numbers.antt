@@ -4,9 +4,9 @@ use native.Mathlib.Omega.{arith}
 use mathlib.Core.Path.{_≡_, refl, sym, ap, ap₂, _∙_, subst}
 use mathlib.Core.Logic.{⊎-elim}
 use mathlib.Core.Bool.{Bool, true, false, _&&_}
-use mathlib.Core.List.{List, [], _∷_}
+use mathlib.Core.List.{List, [], _∷_, _++_}
 use lib.Dec.{eqb, lit<}
-use lib.ListN.{length, drop, length-drop}
+use lib.ListN.{length, drop, length-drop, length-append}
 use borrow.Author.Tests.{ne-eqb, le-leb, lt-leb, lt-ltb, le-ltb}
 use Rattle.decimal.specs.Digits.{isDigit, digitsOf, value, decimal}
 use Rattle.decimal.specs.Complement.{pattern}
@@ -15,13 +15,15 @@ use Rattle.decimal.specs.declared.Run.{Run}
 use Rattle.decimal.proofs.Decide.{Test, passed, failed, test, T-of, Order, below, above, order}
 use Rattle.decimal.proofs.Numerals.{digit-low}
 use Rattle.format.specs.Bytes.{byte, bytes}
-use Rattle.format.specs.Syntax.{Sign, unsigned, plus, minus, Literal, Spelling}
+use Rattle.format.specs.Syntax.{Sign, unsigned, plus, minus, Literal, Spelling, writeNumber}
 use Rattle.format.specs.Keys.{integer}
 use Rattle.format.specs.Limits.{numberLimit, integerLimit, signOf}
 use Rattle.format.specs.Answer.{Answer, ok, refused, _>>=_}
 use Rattle.format.specs.Read.{expect, digits, number, intText, Reader, countText, namedText}
 use Rattle.format.specs.Table.{word}
 use Rattle.format.proofs.Answers.{ok-same, refused-same, not-both, bind-ok, bind-refused}
+use Rattle.format.proofs.Texts.{number-ok}
+use Rattle.format.proofs.Fronts.{number-front}
 use Rattle.scanner.specs.declared.Text.{Text}
 use Rattle.scanner.specs.declared.number.Front.{Front}
 use Rattle.scanner.specs.declared.Scan.{Scan}
@@ -281,28 +283,34 @@ module _ (s : List ℕ) (at : ℕ) where
       (subst (λ (n : Bool). Scans (signedText (integerLimit (h .sign))) (signedTold n) s (f .from) r) (h .negative)
       (subst (λ (t : ℕ). Scans (signedText t) (signedTold (f .negative)) s (f .from) r) (h .top) e))
 
--- ---- counts and ordinals named
+-- ---- numbers
 
+-- digits that are a number, and how it is spelled
 abbrev spelledSo : ℕ × ℕ → Spelling × ℕ
 spelledSo n = (record { zeros = n .0 }, n .1)
 
-pub number-is : (l : ℕ) (s : List ℕ) (n : ℕ × ℕ) (s′ : List ℕ) → digits l numberLimit s ≡ ok (n, s′) → number l s ≡ ok (spelledSo n, s′)
+pub number-is : {s : List ℕ} {at : ℕ} {r : Scan} → Scans (digitsText numberLimit) valueTold s at r → Scans number valueTold s at r
 unfolding number
-number-is l s n s′ e = rw (number, e)
+number-is h = scans-map spelledSo (λ l s. refl) (λ n next. refl) h
 
-pub number-not : (l c : ℕ) (s : List ℕ) → digits l numberLimit s ≡ refused c l → number l s ≡ refused c l
-unfolding number
-number-not l c s e = rw (number, e)
+-- a number ends where its text does
+pub number-ends : (s : List ℕ) (at : ℕ) (t : Text) (n : Found number valueTold s at t) → t .next ≡ at + length (writeNumber (n .what .0) (n .what .1) [])
+number-ends s at t n =
+    let text : List ℕ = writeNumber (n .what .0) (n .what .1) [] in
+    let rest : List ℕ = drop (t .next) s in
+    let split : drop at s ≡ text ++ rest = number-ok 0 (drop at s) (n .what, rest) (n .is 0) .text ∙ number-front (n .what .0) (n .what .1) [] rest in
+    omega (arith, ap length split, length-append text rest, length-drop at s, length-drop (t .next) s, n .on, n .inside)
 
-pub count-not : {s : List ℕ} {at c : ℕ} {r : Scan} → Scans (digitsText numberLimit) valueTold s at r → r ≡ Scan.Not c → Scans countText countTold s at r
+-- ---- counts and ordinals named
+
+pub count-not : {s : List ℕ} {at c : ℕ} {r : Scan} → Scans number valueTold s at r → r ≡ Scan.Not c → Scans countText countTold s at r
 unfolding countText
-count-not {s} {at} {c} h e = unfit-part h e (λ l q. rw (countText, number-not l c (drop at s) q))
+count-not h e = unfit-part h e (λ l q. rw (countText, q))
 
-module _ (s : List ℕ) (at : ℕ) (run : Text) (n : Found (digitsText numberLimit) valueTold s at run) where
+module _ (s : List ℕ) (at : ℕ) (run : Text) (n : Found number valueTold s at run) where
   pub count-open : (eqb (byteAt s (run .next)) (byte ":") && eqb (byteAt s (run .next + 1)) (byte "{")) ≡ false → Scans countText countTold s at (Scan.Not 2)
   unfolding countText
-  count-open e = scans-not 2
-      (λ l. rw (countText, number-is l (drop at s) (n .what) (drop (run .next) s) (n .is l), pair-no s (run .next) (byte ":") (byte "{") l [] (lit< tt) e))
+  count-open e = scans-not 2 (λ l. rw (countText, n .is l, pair-no s (run .next) (byte ":") (byte "{") l [] (lit< tt) e))
 
   pub count-is : (eqb (byteAt s (run .next)) (byte ":") && eqb (byteAt s (run .next + 1)) (byte "{")) ≡ true
       → Scans countText countTold s at (Scan.Is (tell 0 0 (run .content) (run .next + 2)))
@@ -310,12 +318,8 @@ module _ (s : List ℕ) (at : ℕ) (run : Text) (n : Found (digitsText numberLim
   count-is e =
       let k : run .next + 1 < length s = pair-there s (run .next) (byte ":") (byte "{") e (lit< tt) in
       scans-is (tell 0 0 (run .content) (run .next + 2)) record {
-        what = spelledSo (n .what);
-        is = λ l. rw (
-          countText,
-          number-is l (drop at s) (n .what) (drop (run .next) s) (n .is l),
-          pair-yes s (run .next) (byte ":") (byte "{") e l [] (lit< tt) (lit< tt),
-        );
+        what = n .what;
+        is = λ l. rw (countText, n .is l, pair-yes s (run .next) (byte ":") (byte "{") e l [] (lit< tt) (lit< tt));
         tells = ap (λ (u : Text). tell 0 0 (u .content) (run .next + 2)) (n .tells);
         on = omega (arith, n .on);
         inside = omega arith;
@@ -327,31 +331,26 @@ module _ (s : List ℕ) (at : ℕ) where
   named-colon e = scans-not 2 (λ l. rw (namedText, expect-no l s at (byte ":") [] e))
 
   module _ (colon : eqb (byteAt s at) (byte ":") ≡ true) where
-    pub named-not : (r : Scan) (c : ℕ) → Scans (digitsText numberLimit) valueTold s (at + 1) r → r ≡ Scan.Not c → Scans namedText valueTold s at r
+    pub named-not : (r : Scan) (c : ℕ) → Scans number valueTold s (at + 1) r → r ≡ Scan.Not c → Scans namedText valueTold s at r
     unfolding namedText
-    named-not r c h e = unfit-part h e (λ l q. rw (namedText, expect-yes l s at (byte ":") [] (lit< tt) colon, number-not l c (drop (at + 1) s) q))
+    named-not r c h e = unfit-part h e (λ l q. rw (namedText, expect-yes l s at (byte ":") [] (lit< tt) colon, q))
 
-    module _ (run : Text) (n : Found (digitsText numberLimit) valueTold s (at + 1) run) where
+    module _ (run : Text) (n : Found number valueTold s (at + 1) run) where
       pub named-open : eqb (byteAt s (run .next)) (byte ";") ≡ false → Scans namedText valueTold s at (Scan.Not 2)
       unfolding namedText
       named-open e = scans-not 2
-          (λ l. rw (
-            namedText,
-            expect-yes l s at (byte ":") [] (lit< tt) colon,
-            number-is l (drop (at + 1) s) (n .what) (drop (run .next) s) (n .is l),
-            expect-no l s (run .next) (byte ";") [] e,
-          ))
+          (λ l. rw (namedText, expect-yes l s at (byte ":") [] (lit< tt) colon, n .is l, expect-no l s (run .next) (byte ";") [] e))
 
       pub named-is : eqb (byteAt s (run .next)) (byte ";") ≡ true → Scans namedText valueTold s at (Scan.Is (tell (run .content) 0 0 (run .next + 1)))
       unfolding namedText
       named-is e =
           let k : run .next < length s = byte-there s (run .next) (byte ";") (lit< tt) e in
           scans-is (tell (run .content) 0 0 (run .next + 1)) record {
-            what = spelledSo (n .what);
+            what = n .what;
             is = λ l. rw (
               namedText,
               expect-yes l s at (byte ":") [] (lit< tt) colon,
-              number-is l (drop (at + 1) s) (n .what) (drop (run .next) s) (n .is l),
+              n .is l,
               expect-yes l s (run .next) (byte ";") [] (lit< tt) e,
             );
             tells = ap (λ (u : Text). tell (u .content) 0 0 (run .next + 1)) (n .tells);

@@ -3,25 +3,21 @@ use Prim.Native.Nat.{ℕ, _+_, _-_, _≤_, _<_}
 use native.Mathlib.Omega.{arith}
 use mathlib.Core.Path.{_≡_, sym, ap, _∙_}
 use mathlib.Core.Bool.{true, false, _&&_}
-use mathlib.Core.List.{List, [], _∷_, _++_}
+use mathlib.Core.List.{List, [], _∷_}
 use lib.Dec.{eqb, leb, lit<}
-use lib.ListN.{length, take, drop, length-drop, length-append}
+use lib.ListN.{length, take, drop, length-drop}
 use lib.Seq.{drop-drop, length-take-le}
 use borrow.Author.Tests.{le-leb, lt-leb}
-use Rattle.decimal.specs.Digits.{spelled}
 use Rattle.format.specs.Bytes.{byte, bytes}
 use Rattle.format.specs.Syntax.{Quoted, writeNumber}
-use Rattle.format.specs.Limits.{numberLimit}
 use Rattle.format.specs.Answer.{Answer, ok, require, _>>=_}
-use Rattle.format.specs.Read.{expect, quotedText}
-use Rattle.format.proofs.Texts.{digits-ok}
+use Rattle.format.specs.Read.{expect, number, quotedText}
 use Rattle.scanner.specs.declared.Text.{Text}
 use Rattle.scanner.specs.declared.Scan.{Scan}
 use Rattle.bytes_at.specs.ByteAt.{byteAt}
 use Rattle.scanner.specs.Scans.{Found, Scans, tell, valueTold, quotedTold}
-use Rattle.scanner.specs.Parts.{digitsText}
 use Rattle.bytes_at.proofs.BytesAt.{expect-yes, expect-no, pair-there, pair-yes, pair-no}
-use Rattle.scanner.proofs.Numbers.{scans-is, scans-not, unfit-part, number-is, number-not}
+use Rattle.scanner.proofs.Numbers.{scans-is, scans-not, unfit-part, number-ends}
 
 module _ (s : List ℕ) (at close : ℕ) (small : close < 256) where
   abbrev Answers : Scan → Type 0
@@ -32,25 +28,25 @@ module _ (s : List ℕ) (at close : ℕ) (small : close < 256) where
   quoted-colon e = scans-not 2 (λ l. rw (quotedText, expect-no l s at (byte ":") [] e))
 
   module _ (colon : eqb (byteAt s at) (byte ":") ≡ true) where
-    pub quoted-not : (r : Scan) (c : ℕ) → Scans (digitsText numberLimit) valueTold s (at + 1) r → r ≡ Scan.Not c → Answers r
+    pub quoted-not : (r : Scan) (c : ℕ) → Scans number valueTold s (at + 1) r → r ≡ Scan.Not c → Answers r
     unfolding quotedText
-    quoted-not r c h e = unfit-part h e (λ l q. rw (quotedText, expect-yes l s at (byte ":") [] (lit< tt) colon, number-not l c (drop (at + 1) s) q))
+    quoted-not r c h e = unfit-part h e (λ l q. rw (quotedText, expect-yes l s at (byte ":") [] (lit< tt) colon, q))
 
-    module _ (run : Text) (n : Found (digitsText numberLimit) valueTold s (at + 1) run) where
+    module _ (run : Text) (n : Found number valueTold s (at + 1) run) where
       -- what follows the length
       abbrev rest : (l : ℕ) → List ℕ → Answer (Quoted × List ℕ)
       rest l s₂ = do
         s₃ ← expect l (bytes ":\"") s₂
         _ ← require (leb (run .content) (length s₃)) 2 l
         s₄ ← expect l (byte "\"" ∷ close ∷ []) (drop (run .content) s₃)
-        ok (record { spelling = record { zeros = n .what .0 }; text = take (run .content) s₃ }, s₄)
+        ok (record { spelling = n .what .0; text = take (run .content) s₃ }, s₄)
 
       worth : n .what .1 ≡ run .content
       worth = sym (ap (λ (u : Text). u .content) (n .tells))
 
       opened : (l : ℕ) → quotedText l (byte "\"" ∷ close ∷ []) (drop at s) ≡ rest l (drop (run .next) s)
       unfolding quotedText
-      opened l = rw (quotedText, expect-yes l s at (byte ":") [] (lit< tt) colon, number-is l (drop (at + 1) s) (n .what) (drop (run .next) s) (n .is l), worth)
+      opened l = rw (quotedText, expect-yes l s at (byte ":") [] (lit< tt) colon, n .is l, worth)
 
       pub quoted-quote : (eqb (byteAt s (run .next)) (byte ":") && eqb (byteAt s (run .next + 1)) (byte "\"")) ≡ false → Answers (Scan.Not 2)
       quoted-quote e = scans-not 2 (λ l. opened l ∙ rw (pair-no s (run .next) (byte ":") (byte "\"") l [] (lit< tt) e))
@@ -81,26 +77,15 @@ module _ (s : List ℕ) (at close : ℕ) (small : close < 256) where
           long = length-take-le (run .content) (drop offset s) (omega (arith, length-drop offset s))
 
           -- the text begins where its length, a colon and a quote end
-          begins : offset ≡ at + 3 + length (writeNumber (record { zeros = n .what .0 }) (run .content) [])
-          begins = omega (arith, width)
-            where
-              split : drop (at + 1) s ≡ spelled (n .what .0) (n .what .1) ++ drop (run .next) s
-              split = digits-ok 0 numberLimit (drop (at + 1) s) (n .what, drop (run .next) s) (n .is 0) .text
-
-              width : run .next ≡ at + 1 + length (spelled (n .what .0) (run .content) ++ [])
-              width =
-                  let a = ap length split in
-                  let b = length-append (spelled (n .what .0) (n .what .1)) (drop (run .next) s) in
-                  let c = length-append (spelled (n .what .0) (run .content)) [] in
-                  let d = ap (λ (m : ℕ). length (spelled (n .what .0) m)) worth in
-                  omega (arith, a, b, c, d, length-drop (at + 1) s, length-drop (run .next) s, n .on, n .inside)
+          begins : offset ≡ at + 3 + length (writeNumber (n .what .0) (run .content) [])
+          begins = omega (arith, number-ends s (at + 1) run n, ap (λ (m : ℕ). length (writeNumber (n .what .0) m [])) worth)
 
           pub quoted-is : (w : ℕ) → w ≡ offset → (eqb (byteAt s (offset + run .content)) (byte "\"") && eqb (byteAt s (offset + run .content + 1)) close) ≡ true
               → Answers (Scan.Is (tell w (run .content) 0 (offset + run .content + 2)))
           quoted-is w z e =
               let k : offset + run .content + 1 < length s = pair-there s (offset + run .content) (byte "\"") close e small in
               scans-is (tell w (run .content) 0 (offset + run .content + 2)) record {
-                what = record { spelling = record { zeros = n .what .0 }; text = take (run .content) (drop offset s) };
+                what = record { spelling = n .what .0; text = take (run .content) (drop offset s) };
                 is = λ l.
                     opened l ∙ rw (
                       entered l,

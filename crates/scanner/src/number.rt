@@ -7,7 +7,7 @@ use format::codes::OUT_OF_RANGE;
 use format::codes::TEXT_UNFIT;
 use format::limits::NUMBER_LIMIT;
 ghost use Prim.Native.Nat.{_-_, _<_, _^_};
-ghost use Rattle.format.specs.Read.{intText, countText, namedText};
+ghost use Rattle.format.specs.Read.{number, intText, countText, namedText};
 ghost use Rattle.scanner.specs.Scans.{Scans, Answers, valueTold, literalTold, countTold};
 ghost use Rattle.scanner.specs.Parts.{digitsText, signedText, signedTold, FrontIs};
 
@@ -17,7 +17,7 @@ pub(crate) const POSITIVE_LIMIT: u64 = 9223372036854775807;
 const NEGATIVE_LIMIT: u64 = 9223372036854775808;
 
 // A run of digits of at most `top`: it "is taken whole, then 5 is tested".
-pub(crate) fn digits(source: &[u8], at: usize, top: u64) -> Scan
+fn digits(source: &[u8], at: usize, top: u64) -> Scan
     requires { ⌜ top < 2 ^ 64 - 1 ⌝ }
     ensures { λ r. ⌜ Scans (digitsText top) valueTold (now (source .entry)) at r ⌝ }
 {
@@ -102,11 +102,18 @@ pub(crate) fn int(source: &[u8], at: usize) -> Scan
     magnitude(source, front.from, front.negative, front.top)
 }
 
+// A *number* of the grammar.
+pub(crate) fn number(source: &[u8], at: usize) -> Scan
+    ensures { λ r. ⌜ Scans number valueTold (now (source .entry)) at r ⌝ }
+{
+    digits(source, at, NUMBER_LIMIT)
+}
+
 // A count of pairs and the opening brace, from behind the colon on.
 pub(crate) fn count(source: &[u8], at: usize) -> Scan
     ensures { λ r. ⌜ Answers countText countTold (now (source .entry)) at r ⌝ }
 {
-    let scan = digits(source, at, NUMBER_LIMIT);
+    let scan = number(source, at);
     let Scan::Is(run) = scan else {
         return scan;
     };
@@ -129,7 +136,7 @@ pub fn named(source: &[u8], at: usize) -> Scan
     if !byte_is(source, at, b':') {
         return Scan::Not(TEXT_UNFIT);
     }
-    let scan = digits(source, at + 1, NUMBER_LIMIT);
+    let scan = number(source, at + 1);
     let Scan::Is(run) = scan else {
         return scan;
     };

@@ -1,11 +1,10 @@
 // Texts between quotes: of s, and O's class name. The index is the one behind the tag.
 use crate::Scan;
 use crate::Text;
-use crate::number::digits;
+use crate::number::number;
 use bytes_at::byte_is;
 use bytes_at::bytes_are;
 use format::codes::TEXT_UNFIT;
-use format::limits::NUMBER_LIMIT;
 ghost use mathlib.Core.List.{[], _∷_};
 ghost use Rattle.format.specs.Bytes.{byte};
 ghost use Rattle.format.specs.Read.{quotedText};
@@ -18,7 +17,7 @@ pub(crate) fn quoted(source: &[u8], at: usize, close: u8) -> Scan
     if !byte_is(source, at, b':') {
         return Scan::Not(TEXT_UNFIT);
     }
-    let scan = digits(source, at + 1, NUMBER_LIMIT);
+    let scan = number(source, at + 1);
     let Scan::Is(run) = scan else {
         return scan;
     };

@@ -166,9 +166,10 @@ fn length(answer: ffi::Writing) -> Result<usize, Refusal> {
     }
 }
 
-/// A refusal from its number, which the library promises to be 1 to 14.
+/// A refusal from its number; the library promises no number that has no reason.
 fn refusal(code: u64, at: u64) -> Refusal {
-    let reason = Reason::from_code(code).expect("the library refuses with 1 to 14");
+    let reason =
+        Reason::from_code(code).expect("the library refuses with a number of `Reason::ALL`");
     Refusal {
         reason,
         at: at as usize,

@@ -2,12 +2,12 @@
 
 use super::Line;
 use crate::call::{Reply, Service};
+use tonschnecke::Reason;
 
 /// The refusals of reading that can stand at position 0.
 const AT_START: &[usize] = &[1, 2, 3, 5, 6, 7];
 /// The refusals of reading that can stand further on.
 const FURTHER_ON: &[usize] = &[2, 3, 4, 5, 6, 7, 8, 9, 10];
-const LAST_REFUSAL: usize = 14;
 
 /// The refusals of a service's own, all at position 0. The 7 of inserting is counted by its
 /// circumstances.
@@ -24,7 +24,7 @@ pub struct Calls {
     made: u64,
     accepted: u64,
     /// Refused calls by code, less one: at position 0, and further on.
-    refused: [[u64; 2]; LAST_REFUSAL],
+    refused: [[u64; 2]; Reason::ALL.len()],
 }
 
 impl Calls {

@@ -11,10 +11,12 @@ use blocks::{fits, read, Block, Document, Step};
 use session::Printed;
 use std::io::Write;
 use std::path::Path;
+use tonschnecke::Reason;
 
 const README: &str = "README.md";
 const GUIDE: &str = "docs/GUIDE.md";
 const FORMAT: &str = "docs/FORMAT.md";
+const HEADER: &str = "include/tonschnecke.h";
 
 /// Shown, and what is run instead: `make run` would prove and build first.
 const MAKE_RUN: (&str, &str) = ("make run", "examples/run.sh");
@@ -111,10 +113,21 @@ fn every_refusal_has_an_example() {
     let blocks = format.blocks_in("console");
     let steps = blocks.iter().flat_map(Block::steps);
     let printed: Vec<&str> = steps.flat_map(|step| step.expected).collect();
-    for number in 1..=14 {
+    for number in Reason::ALL.map(Reason::code) {
         let refused = format!("refused {number}");
         // At the end, too: a program may print the number alone.
         let told = |line: &&str| line.split(" at ").next().unwrap().ends_with(&refused);
         assert!(printed.iter().any(told), "{refused}");
+    }
+}
+
+#[test]
+fn every_refusal_has_a_row() {
+    let (format, header) = (read(FORMAT), read(HEADER));
+    let (_, refusals) = format.split_once("\n## Refusals\n").expect("a section");
+    for number in Reason::ALL.map(Reason::code) {
+        let (row, in_header) = (format!("\n| {number} | "), format!("\n *{number:>6}   "));
+        assert!(refusals.contains(&row), "{FORMAT}: {number}");
+        assert!(header.contains(&in_header), "{HEADER}: {number}");
     }
 }

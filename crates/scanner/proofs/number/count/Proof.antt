@@ -9,8 +9,8 @@ use borrow.Author.Needs.{needs}
 use Rattle.scanner.proofs.number.count.Statement.{statement}
 use Rattle.scanner.proofs.number.count.Tie as tie
 
-digits-requires : tie.Need-digits-requires
-digits-requires c κs = search needs
+number-requires : tie.Need-number-requires
+number-requires c κs = search needs
 
 enum-known-scan : tie.Need-enum-known-scan
 enum-known-scan c = search needs
@@ -19,7 +19,7 @@ enum-told : tie.Need-enum-told
 enum-told c = search needs
 
 returns : tie.Need-returns
-returns c = answered (count-not (c .before .before .digits .ensures) (c .enum-told .given .1))
+returns c = answered (count-not (c .before .before .number .ensures) (c .enum-told .given .1))
 
 bytes-are-requires : tie.Need-bytes-are-requires
 bytes-are-requires c κs = search needs
@@ -29,7 +29,7 @@ returns-2 c =
     let compared = c .before in
     let found = compared .before .before in
     let scanned = found .before .before in
-    answered (count-open _ _ _ (found-of (scanned .digits .ensures) (found .scan .given .1)) (sym (compared .bytes-are .ensures) ∙ not-true _ (c .if1 .taken)))
+    answered (count-open _ _ _ (found-of (scanned .number .ensures) (found .scan .given .1)) (sym (compared .bytes-are .ensures) ∙ not-true _ (c .if1 .taken)))
 
 add-t8 : tie.Need-add-t8
 add-t8 c = omega (arith, pair-there _ _ _ _ (sym (c .before .bytes-are .ensures) ∙ not-false _ (c .if1 .left)) (lit< tt))
@@ -39,13 +39,13 @@ returns-3 c =
     let compared = c .before in
     let found = compared .before .before in
     let scanned = found .before .before in
-    answered (count-is _ _ _ (found-of (scanned .digits .ensures) (found .scan .given .1)) (sym (compared .bytes-are .ensures) ∙ not-false _ (c .if1 .left)))
+    answered (count-is _ _ _ (found-of (scanned .number .ensures) (found .scan .given .1)) (sym (compared .bytes-are .ensures) ∙ not-false _ (c .if1 .left)))
 
 pub count-spec : {M : Type 1} → statement M
 count-spec =
     tie.close
     (tie.spec
-    digits-requires
+    number-requires
     enum-known-scan
     enum-told
     returns

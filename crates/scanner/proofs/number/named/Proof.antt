@@ -26,11 +26,11 @@ byte-is-requires c κs = search needs
 returns : tie.Need-returns
 returns c = answered (named-colon _ _ (sym (c .before .byte-is .ensures) ∙ not-true _ (c .if1 .taken)))
 
-add-digits : tie.Need-add-digits
-add-digits c = omega (arith, byte-there _ _ (byte ":") (lit< tt) (colon c))
+add-number : tie.Need-add-number
+add-number c = omega (arith, byte-there _ _ (byte ":") (lit< tt) (colon c))
 
-digits-requires : tie.Need-digits-requires
-digits-requires c κs = search needs
+number-requires : tie.Need-number-requires
+number-requires c κs = search needs
 
 enum-known-scan : tie.Need-enum-known-scan
 enum-known-scan c = search needs
@@ -41,7 +41,7 @@ enum-told c = search needs
 returns-2 : tie.Need-returns-2
 returns-2 c =
     let scanned = c .before .before in
-    answered (named-not _ _ (colon (scanned .before)) _ _ (scanned .digits .ensures) (c .enum-told .given .1))
+    answered (named-not _ _ (colon (scanned .before)) _ _ (scanned .number .ensures) (c .enum-told .given .1))
 
 byte-is-requires-2 : tie.Need-byte-is-requires-2
 byte-is-requires-2 c κs = search needs
@@ -51,7 +51,7 @@ returns-3 c =
     let compared = c .before in
     let found = compared .before .before in
     let scanned = found .before .before in
-    let is = found-of (scanned .digits .ensures) (found .scan .given .1) in
+    let is = found-of (scanned .number .ensures) (found .scan .given .1) in
     answered (named-open _ _ (colon (scanned .before)) _ is (sym (compared .byte-is2 .ensures) ∙ not-true _ (c .if2 .taken)))
 
 add-t8 : tie.Need-add-t8
@@ -62,7 +62,7 @@ returns-4 c =
     let compared = c .before in
     let found = compared .before .before in
     let scanned = found .before .before in
-    let is = found-of (scanned .digits .ensures) (found .scan .given .1) in
+    let is = found-of (scanned .number .ensures) (found .scan .given .1) in
     answered (named-is _ _ (colon (scanned .before)) _ is (sym (compared .byte-is2 .ensures) ∙ not-false _ (c .if2 .left)))
 
 pub named-spec : {M : Type 1} → statement M
@@ -71,8 +71,8 @@ named-spec =
     (tie.spec
     byte-is-requires
     returns
-    add-digits
-    digits-requires
+    add-number
+    number-requires
     enum-known-scan
     enum-told
     returns-2

@@ -7,12 +7,11 @@ use mathlib.Core.List.{List}
 use lib.Dec.{eqb, lit<}
 use borrow.Author.Tests.{not-true, not-false}
 use Rattle.format.specs.Bytes.{byte}
-use Rattle.format.specs.Limits.{numberLimit}
+use Rattle.format.specs.Read.{number}
 use Rattle.bytes_at.specs.ByteAt.{byteAt}
 use Rattle.bytes_at.proofs.BytesAt.{byte-there, pair-there}
 use Rattle.scanner.specs.declared.Text.{Text}
 use Rattle.scanner.specs.Scans.{Found, valueTold}
-use Rattle.scanner.specs.Parts.{digitsText}
 use Rattle.scanner.proofs.Numbers.{found-of, answered}
 use Rattle.scanner.proofs.Quotes as quotes
 use borrow.Author.Needs.{needs}
@@ -44,8 +43,8 @@ module _ (sized : tie.After-scan) where
   abbrev run : Text
   run = sized .scan .given .0 .0
 
-  size : Found (digitsText numberLimit) valueTold (source past) (at past + 1) run
-  size = found-of (sized .before .before .digits .ensures) (sized .scan .given .1)
+  size : Found number valueTold (source past) (at past + 1) run
+  size = found-of (sized .before .before .number .ensures) (sized .scan .given .1)
 
 -- behind the opening quote
 module _ (opened : tie.Else2) where
@@ -63,11 +62,11 @@ returns c =
     let asked = c .before in
     answered (quotes.quoted-colon _ _ (asked .before .before .args .close) (omega arith) (sym (asked .byte-is .ensures) ∙ not-true _ (c .if1 .taken)))
 
-add-digits : tie.Need-add-digits
-add-digits c = omega (arith, byte-there _ _ (byte ":") (lit< tt) (colon c))
+add-number : tie.Need-add-number
+add-number c = omega (arith, byte-there _ _ (byte ":") (lit< tt) (colon c))
 
-digits-requires : tie.Need-digits-requires
-digits-requires c κs = search needs
+number-requires : tie.Need-number-requires
+number-requires c κs = search needs
 
 enum-known-scan : tie.Need-enum-known-scan
 enum-known-scan c = search needs
@@ -79,7 +78,7 @@ returns-2 : tie.Need-returns-2
 returns-2 c =
     let scanned = c .before .before in
     let past = scanned .before in
-    answered (quotes.quoted-not _ _ _ (small past) (colon past) _ _ (scanned .digits .ensures) (c .enum-told .given .1))
+    answered (quotes.quoted-not _ _ _ (small past) (colon past) _ _ (scanned .number .ensures) (c .enum-told .given .1))
 
 bytes-are-requires : tie.Need-bytes-are-requires
 bytes-are-requires c κs = search needs
@@ -100,8 +99,8 @@ sub-if3 c = omega (arith, pair-there _ _ _ _ (quote c) (lit< tt))
 returns-4 : tie.Need-returns-4
 returns-4 c =
     let opened = c .before in
-    let digits = sized opened in
-    answered (quotes.quoted-short _ _ _ (small (past digits)) (colon (past digits)) _ (size digits) (quote opened) (c .if3 .taken))
+    let sized = sized opened in
+    answered (quotes.quoted-short _ _ _ (small (past sized)) (colon (past sized)) _ (size sized) (quote opened) (c .if3 .taken))
 
 add-end : tie.Need-add-end
 add-end c = omega (arith, pair-there _ _ _ _ (quote (c .before)) (lit< tt), c .if3 .left)
@@ -114,8 +113,8 @@ returns-5 c =
     let compared = c .before in
     let enough = compared .before in
     let opened = enough .before in
-    let digits = sized opened in
-    answered (quotes.quoted-open _ _ _ (small (past digits)) (colon (past digits)) _ (size digits) (quote opened) (enough .if3 .left)
+    let sized = sized opened in
+    answered (quotes.quoted-open _ _ _ (small (past sized)) (colon (past sized)) _ (size sized) (quote opened) (enough .if3 .left)
     (sym (compared .bytes-are2 .ensures) ∙ not-true _ (c .if4 .taken)))
 
 add-t13 : tie.Need-add-t13
@@ -127,8 +126,8 @@ returns-6 c =
     let compared = c .before in
     let enough = compared .before in
     let opened = enough .before in
-    let digits = sized opened in
-    answered (quotes.quoted-is _ _ _ (small (past digits)) (colon (past digits)) _ (size digits) (quote opened) (enough .if3 .left) _ refl
+    let sized = sized opened in
+    answered (quotes.quoted-is _ _ _ (small (past sized)) (colon (past sized)) _ (size sized) (quote opened) (enough .if3 .left) _ refl
     (sym (compared .bytes-are2 .ensures) ∙ not-false _ (c .if4 .left)))
 
 pub quoted-spec : {M : Type 1} → statement M
@@ -137,8 +136,8 @@ quoted-spec =
     (tie.spec
     byte-is-requires
     returns
-    add-digits
-    digits-requires
+    add-number
+    number-requires
     enum-known-scan
     enum-told
     returns-2
