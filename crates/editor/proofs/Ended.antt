@@ -12,16 +12,16 @@ use lib.Seq.{sets, sets-eq, length-sets, take-append-seam}
 use borrow.Author.Tests.{le-leb, lt-leb}
 use Rattle.decimal.proofs.Decide.{Order, below, above, order, T-of, T-true, T-false, and-left, and-right}
 use Rattle.format.specs.Syntax.{Value, print}
-use Rattle.format.specs.Limits.{sourceLimit}
+use Rattle.format.specs.Limits.{sourceLimit, Terms}
 use Rattle.format.specs.Answer.{Answer, ok, refused, _>>=_, require, refusalOf}
 use Rattle.format.specs.declared.codes.Refusal.{Refusal}
 use Rattle.format.specs.Read.{read}
 use Rattle.format.specs.Canonical.{canonical}
-use Rattle.format.specs.Reading.{capacityOf, cleared, over, tableAfter}
+use Rattle.format.specs.Reading.{termsOf, cleared, over, tableAfter}
 use Rattle.format.specs.Fits.{IsPlan}
 use Rattle.format.proofs.Answers.{not-both, require-ok}
 use Rattle.format.proofs.Inversion.{read-ok}
-use Rattle.format.proofs.Results.{after-length}
+use Rattle.format.proofs.Results.{after-length, after-terms}
 use Rattle.format.specs.Writing.{fitsIn, withRoom, canonicalBytes, insertionOf, insertBytes}
 use Rattle.format.proofs.Answers.{not-both, bind-refused}
 use Rattle.editor.specs.Promise.{writingAnswer, Writes}
@@ -66,9 +66,9 @@ untouched {part} bytes e out = go part (ap length e ∙ length-sets [] 0 bytes)
 pub puts-on : {bytes out out₁ : List ℕ} {n : ℕ} {out′ : List ℕ} → out₁ ≡ out → Puts bytes 0 out₁ n out′ → Puts bytes 0 out n out′
 puts-on {bytes} {n = n} {out′} e p = subst (λ (o : List ℕ). Puts bytes 0 o n out′) e p
 
-pub writes-on : {text : Answer (List ℕ)} {source before after out out₁ : List ℕ} {r : Writing} → out₁ ≡ out → Writes text source before after out out r
-    → Writes text source before after out out₁ r
-writes-on {text} {source} {before} {after} {out} {r = r} e w = subst (λ (o : List ℕ). Writes text source before after out o r) (sym e) w
+pub writes-on : {text : Answer (List ℕ)} {source before after out out₁ : List ℕ} {r : Writing} → out₁ ≡ out
+    → Writes (termsOf before) text source before after out out r → Writes (termsOf before) text source before after out out₁ r
+writes-on {text} {source} {before} {after} {out} {r = r} e w = subst (λ (o : List ℕ). Writes (termsOf before) text source before after out o r) (sym e) w
 
 -- a text for which there is room, put in front
 module _ {bytes : List ℕ} {n : ℕ} {out out′ : List ℕ} (put : Puts bytes 0 out n out′) where
@@ -95,32 +95,34 @@ module _ {bytes : List ℕ} {n : ℕ} {out out′ : List ℕ} (put : Puts bytes 
 module _ {text : Answer (List ℕ)} (source before out : List ℕ) where
   -- a refusal that is the definition's own, with nothing written
   refusal : {after : List ℕ} {code at : ℕ} {r : Writing} → text ≡ refused code at → writingAnswer r ≡ refused code at → after ≡ cleared before
-      → Writes text source before after out out r
+      → Writes (termsOf before) text source before after out out r
   refusal {after} {r = r} e f t =
-      subst (λ (a : Answer (List ℕ)). Writes a source before after out out r) (sym e)
+      subst (λ (a : Answer (List ℕ)). Writes (termsOf before) a source before after out out r) (sym e)
       (record { answer = f; leaves = record { table = t; output = refl } })
 
   pub writes-refused : {after : List ℕ} {code at : ℕ} → text ≡ refused code at → after ≡ cleared before
-      → Writes text source before after out out (Writing.Refused code at)
+      → Writes (termsOf before) text source before after out out (Writing.Refused code at)
   unfolding writingAnswer
   writes-refused e t = refusal e refl t
 
   -- the plan having been read: 14, or the text
-  module _ (bytes : List ℕ) (e : text ≡ withRoom (length out) bytes) {between : List ℕ} (t : between ≡ tableAfter source before) where
+  module _ (bytes : List ℕ) (e : text ≡ withRoom (length out) bytes) {between : List ℕ} (t : between ≡ tableAfter (termsOf before) source before) where
     roomed : (b : Bool) → fitsIn (length out) (length bytes) ≡ b → text ≡ (require b 14 0 >>= λ u. ok bytes)
     roomed b f = e ∙ ap (λ (b : Bool). require b 14 0 >>= λ u. ok bytes) f
 
     pub writes-14 : fitsIn (length out) (length bytes) ≡ false → {after : List ℕ} {r : Writing} → Refuses between after r
-        → Writes text source before after out out r
-    writes-14 f c = refusal (roomed false f) (c .answer) (c .table ∙ ap (λ (k : ℕ). replicate k 0) (ap length t ∙ after-length source before))
+        → Writes (termsOf before) text source before after out out r
+    writes-14 f c = refusal (roomed false f) (c .answer) (c .table ∙ ap (λ (k : ℕ). replicate k 0) (ap length t ∙ after-length (termsOf before) source before (omega arith)))
 
     pub writes-text : fitsIn (length out) (length bytes) ≡ true → {n : ℕ} {out′ : List ℕ} → Puts bytes 0 out n out′ → {after : List ℕ} {r : Writing}
-        → Settles (take n out′) between after r → Writes text source before after out out′ r
+        → Settles (take n out′) between after r → Writes (termsOf before) text source before after out out′ r
     writes-text f {n} {out′} put {after} {r} c =
         let same : take n out′ ≡ bytes = prefix put f in
-        subst (λ (a : Answer (List ℕ)). Writes a source before after out out′ r) (sym (roomed true f)) (record {
+        let read-again = ap (λ (b : List ℕ). tableAfter (termsOf between) b between) same ∙ ap (λ (u : List ℕ). tableAfter (termsOf u) bytes u) t
+        ∙ ap (λ (c : Terms). tableAfter c bytes (tableAfter (termsOf before) source before)) (after-terms source before) in
+        subst (λ (a : Answer (List ℕ)). Writes (termsOf before) a source before after out out′ r) (sym (roomed true f)) (record {
           answer = c .answer ∙ ap (λ (l : List ℕ). ok (length l)) same;
-          leaves = record { table = c .table ∙ ap₂ tableAfter same t; output = written put f };
+          leaves = record { table = c .table ∙ read-again; output = written put f };
         })
 
 -- ---- an edit
@@ -221,9 +223,9 @@ module _ {source : List ℕ} {e : Edit} {key value out out′ : List ℕ} {r : R
 
 -- ---- retyping
 
-module _ (capacity : ℕ) (source : List ℕ) (v : Value) (e : read capacity source ≡ ok v) where
-  plan : IsPlan capacity source v
-  plan = read-ok capacity source v e
+module _ (terms : Terms) (source : List ℕ) (v : Value) (e : read terms source ≡ ok v) where
+  plan : IsPlan terms source v
+  plan = read-ok terms source v e
 
   -- the plan is a stretch of its tokens
   abbrev whole-plan : Stretch source 0 (length source)
@@ -251,8 +253,8 @@ module _ (capacity : ℕ) (source : List ℕ) (v : Value) (e : read capacity sou
       never : {p : Spot} → Edit.Canonical ≡ Edit.Insert p → ⊥
       never i = let z : _≡_ {A = ℕ} 0 1 = cc in omega arith
 
-  pub canonical-written : (room : ℕ) → canonicalBytes capacity room source ≡ withRoom room (canonicalText source)
-  canonical-written room = by-value capacity room source v e ∙ ap (withRoom room) (sym canonical-text)
+  pub canonical-written : (room : ℕ) → canonicalBytes terms room source ≡ withRoom room (canonicalText source)
+  canonical-written room = by-value terms room source v e ∙ ap (withRoom room) (sym canonical-text)
 
 -- ---- inserting
 
@@ -260,14 +262,14 @@ module _ (capacity : ℕ) (source : List ℕ) (v : Value) (e : read capacity sou
 module _ {source : List ℕ} {node place : ℕ} {key value before after : List ℕ} {placing : Placing}
     (l : Locates source node place key value before after placing) where
   module _ {p : Spot} (e : placing ≡ Placing.At p) where
-    spot-is : spotFor (capacityOf before) source node place key value ≡ ok p
+    spot-is : spotFor (termsOf before) source node place key value ≡ ok p
     spot-is = sym (l .answer) ∙ ap placingAnswer e
 
-    pub spot-table : after ≡ tableAfter source before
-    spot-table = l .table ∙ ap (λ (a : Answer Spot). tableLocated a source before) spot-is
+    pub spot-table : after ≡ tableAfter (termsOf before) source before
+    spot-table = l .table ∙ ap (λ (a : Answer Spot). tableLocated (termsOf before) a source before) spot-is
 
-    pub located : Located (capacityOf before) source node place key value p
-    located = spot-leads (capacityOf before) source node place key value p spot-is
+    pub located : Located (termsOf before) source node place key value p
+    located = spot-leads (termsOf before) source node place key value p spot-is
 
     pub insert-sound : EditFits source (Edit.Insert p) key value
     insert-sound =
@@ -284,19 +286,20 @@ module _ {source : List ℕ} {node place : ℕ} {key value before after : List �
         same-spot i = cc
 
   module _ {code at : ℕ} (e : placing ≡ Placing.Refused code at) where
-    refused-is : spotFor (capacityOf before) source node place key value ≡ refused code at
+    refused-is : spotFor (termsOf before) source node place key value ≡ refused code at
     refused-is = sym (l .answer) ∙ ap placingAnswer e
 
     -- refused before 14, so whatever room the output has
-    insert-refused : (room : ℕ) → insertBytes (capacityOf before) room source node place key value ≡ refused code at
+    insert-refused : (room : ℕ) → insertBytes (termsOf before) room source node place key value ≡ refused code at
     unfolding insertBytes spotFor
     insert-refused room =
-        let s = bind-refused (insertionOf (capacityOf before) source node place key value) _ code at refused-is in
+        let s = bind-refused (insertionOf (termsOf before) source node place key value) _ code at refused-is in
         ⊎-elim (λ i. rw i) (λ i. absurd (not-both (sym (i .2)))) s
 
     pub writes-unplaced : (out : List ℕ) {r : Refusal} → r ≡ refusalOf (placingAnswer placing)
-        → Writes (insertBytes (capacityOf before) (length out) source node place key value) source before after out out (Writing.Refused (r .code) (r .at))
+        → Writes (termsOf before) (insertBytes (termsOf before) (length out) source node place key value)
+        source before after out out (Writing.Refused (r .code) (r .at))
     writes-unplaced out h =
         writes-refused source before out
         (insert-refused (length out) ∙ ap (λ (r : Refusal). refused (r .code) (r .at)) (sym (h ∙ ap (λ (x : Placing). refusalOf (placingAnswer x)) e)))
-        (l .table ∙ ap (λ (a : Answer Spot). tableLocated a source before) refused-is)
+        (l .table ∙ ap (λ (a : Answer Spot). tableLocated (termsOf before) a source before) refused-is)

@@ -6,13 +6,13 @@ use lib.Dec.{T}
 use Rattle.format.specs.Bytes.{bytes}
 use Rattle.format.specs.Tree.{count, nodes, ordinals}
 use Rattle.format.specs.Syntax.{float, array, Head, own}
+use Rattle.format.specs.Limits.{Terms}
 use Rattle.format.specs.Answer.{ok}
-use Rattle.format.specs.Table.{width}
-use Rattle.format.specs.Reading.{capacityOf, answer, tableAfter}
+use Rattle.format.specs.Reading.{termsOf, answer, tableAfter}
 use Rattle.format.specs.Edit.{upto, countShortest, newOrdinal, insert}
 use Rattle.format.specs.Writing.{insertBytes}
 use Rattle.format.proofs.Floats.{noSemicolon, float-semicolon}
-use Rattle.format.proofs.Results.{after-length}
+use Rattle.format.proofs.Results.{after-terms}
 use Rattle.format.proofs.Unique.{accepted-exactly}
 use Rattle.insertion.proofs.Inserting.{Inserted, inserted}
 use Rattle.tokens.specs.Tokens.{Token, scalar, opening, closing, keyScalar, tokens, tokensIn, writeTokens, raisedToken, TokenFits, AllFit, nodesOf}
@@ -23,8 +23,8 @@ use Rattle.placing.proofs.Gaps.{new-tokens}
 
 -- "All other bytes are the old ones": the tokens of the plan given, and what becomes of each in the bytes written. They are the plan's own, so a reference
 -- is one of them and no part of another. The head is that of the array asked for, and `middle` are its pairs before the place
-pub record Kept {capacity room : ℕ} {source : List ℕ} {node place : ℕ} {key value bytes : List ℕ}
-    (i : Inserted capacity room source node place key value bytes) : Type 0 where
+pub record Kept {terms : Terms} {room : ℕ} {source : List ℕ} {node place : ℕ} {key value bytes : List ℕ}
+    (i : Inserted terms room source node place key value bytes) : Type 0 where
   pub front : List Token
   pub head : Head
   pub middle : List Token
@@ -43,13 +43,13 @@ pub record Kept {capacity room : ℕ} {source : List ℕ} {node place : ℕ} {ke
 -- named. All other bytes are the old ones."
 pub record Preserved (room : ℕ) (t source : List ℕ) (node place : ℕ) (key value bytes : List ℕ) : Type 0 where
   -- the bytes are an accepted plan, with that meaning and those numbers
-  pub plan : Inserted (capacityOf t) room source node place key value bytes
+  pub plan : Inserted (termsOf t) room source node place key value bytes
   -- "the old ones with three changes"
   pub bytes-kept : Kept plan
   -- "Fresh reading, into the table that reading the old plan left, returns two nodes and one number more."
-  pub fresh : answer (capacityOf (tableAfter source t)) bytes ≡ ok (record { nodes = nodes (plan .old) + 2; ordinals = suc (ordinals own (plan .old)) })
+  pub fresh : answer (termsOf (tableAfter (termsOf t) source t)) bytes ≡ ok (record { nodes = nodes (plan .old) + 2; ordinals = suc (ordinals own (plan .old)) })
 
-kept : {capacity room : ℕ} {source : List ℕ} {node place : ℕ} {key value bytes : List ℕ} (i : Inserted capacity room source node place key value bytes) → Kept i
+kept : {terms : Terms} {room : ℕ} {source : List ℕ} {node place : ℕ} {key value bytes : List ℕ} (i : Inserted terms room source node place key value bytes) → Kept i
 kept {node = node} {place} i =
     let st = site-tokens (i .at) in
     let earlier : List Token = tokensIn (upto place (i .site .pairs)) in
@@ -73,15 +73,14 @@ kept {node = node} {place} i =
     }
 
 pub demand-3 : (room : ℕ) (t source : List ℕ) (node place : ℕ) (key value bytes : List ℕ)
-    → insertBytes (capacityOf t) room source node place key value ≡ ok bytes → Preserved room t source node place key value bytes
+    → insertBytes (termsOf t) room source node place key value ≡ ok bytes → Preserved room t source node place key value bytes
 unfolding answer
 demand-3 room t source node place key value bytes e =
-    let i = inserted (capacityOf t) room source node place key value bytes e in
-    let same : capacityOf (tableAfter source t) ≡ capacityOf t = ap (λ (n : ℕ). n / width) (after-length source t) in
+    let i = inserted (termsOf t) room source node place key value bytes e in
     record {
       plan = i;
       bytes-kept = kept i;
-      fresh = ap (λ (c : ℕ). answer c bytes) same ∙ rw (accepted-exactly (capacityOf t) bytes _ .1 (i .plan))
+      fresh = ap (λ (c : Terms). answer c bytes) (after-terms source t) ∙ rw (accepted-exactly (termsOf t) bytes _ .1 (i .plan))
           (ap₂ (λ (a b : ℕ). ok (record { nodes = a; ordinals = b })) (i .nodes-more) (i .ordinals-more));
     }
 
@@ -91,8 +90,8 @@ fit-at : (xs : List Token) (t : Token) (ys : List Token) → AllFit (xs ++ (t �
 fit-at [] t ys f = f .0
 fit-at (x ∷ xs) t ys f = fit-at xs t ys (f .1)
 
-module _ {capacity room : ℕ} {source : List ℕ} {node place : ℕ} {key value written : List ℕ}
-    {i : Inserted capacity room source node place key value written} (k : Kept i) where
+module _ {terms : Terms} {room : ℕ} {source : List ℕ} {node place : ℕ} {key value written : List ℕ}
+    {i : Inserted terms room source node place key value written} (k : Kept i) where
   abbrev keptTokens : List Token
   keptTokens = k .front ++ (opening (k .head) (count (i .site .pairs)) ∷ k .middle ++ k .back)
 

@@ -6,7 +6,7 @@ use Prim.Native.Nat.{ℕ, _+_, _*_, _≤_}
 use lib.ListN.{length}
 use Rattle.format.specs.Limits.{sourceLimit}
 use Rattle.format.specs.Answer.{Answer, ok, refused, _>>=_, require}
-use Rattle.format.specs.Reading.{cleared, tableAfter}
+use Rattle.format.specs.Reading.{termsOf, cleared, tableAfter}
 use Rattle.format.specs.Writing.{fitsIn, withRoom}
 use Rattle.rewriting.specs.declared.Edit.{Edit}
 use Rattle.rewriting.specs.declared.inserted.Spot.{Spot}
@@ -32,7 +32,7 @@ pub record Refuses (t t′ : List ℕ) (r : Writing) : Type 0 where
 -- the bytes written are read
 pub record Settles (bytes t t′ : List ℕ) (r : Writing) : Type 0 where
   pub answer : writingAnswer r ≡ ok (length bytes)
-  pub table : t′ ≡ tableAfter bytes t
+  pub table : t′ ≡ tableAfter (termsOf t) bytes t
 
 -- lengths of texts that need not be measured: what is written is at most five quarters of the source, with the texts and a head of nine bytes
 pub record Short (room source key value : ℕ) : Type 0 where
@@ -60,5 +60,5 @@ pub record Roomed (s : List ℕ) (e : Edit) (key value out out′ : List ℕ) (r
 -- the answer, the table and the output, the bytes to write being known
 abbrev pub Finishes : (s : List ℕ) → Edit → (key value t t′ out out′ : List ℕ) → Writing → Type 0
 Finishes s e key value t t′ out out′ r =
-    (before : List ℕ) (text : Answer (List ℕ)) → t ≡ tableAfter s before → text ≡ withRoom (length out) (editedText s e key value)
-    → Writes text s before t′ out out′ r
+    (before : List ℕ) (text : Answer (List ℕ)) → t ≡ tableAfter (termsOf before) s before → text ≡ withRoom (length out) (editedText s e key value)
+    → Writes (termsOf before) text s before t′ out out′ r

@@ -3,6 +3,7 @@ use mathlib.Core.Path.{_≡_}
 use mathlib.Core.List.{List}
 use Prim.Native.Nat.{ℕ}
 use lib.ListN.{length}
+use Rattle.format.specs.Limits.{Terms}
 use Rattle.format.specs.Answer.{Answer, ok, refused, _>>=_}
 use Rattle.format.specs.Reading.{cleared, over, tableAfter}
 use Rattle.editor.specs.declared.Writing.{Writing}
@@ -18,9 +19,9 @@ writingAnswer (Writing.Refused code at) = refused code at
 
 -- "A service that writes a plan leaves the table that reading the plan given, if there was one, and then the plan written leaves"; "makes
 -- every word of the table zero"
-abbrev pub tableWritten : Answer (List ℕ) → (source table : List ℕ) → List ℕ
-tableWritten (ok bytes) source t = tableAfter bytes (tableAfter source t)
-tableWritten (refused n p) source t = cleared t
+abbrev pub tableWritten : Terms → Answer (List ℕ) → (source table : List ℕ) → List ℕ
+tableWritten terms (ok bytes) source t = tableAfter terms bytes (tableAfter terms source t)
+tableWritten terms (refused n p) source t = cleared t
 
 -- "Any lent output past the written part keeps what it held."; "writes nothing to the output"
 abbrev pub outputAfter : Answer (List ℕ) → (out : List ℕ) → List ℕ
@@ -28,11 +29,11 @@ outputAfter (ok bytes) out = over bytes out
 outputAfter (refused n p) out = out
 
 -- every word of the table and every byte of the output
-pub record Leaves (bytes : Answer (List ℕ)) (source before after out out′ : List ℕ) : Type 0 where
-  pub table : after ≡ tableWritten bytes source before
+pub record Leaves (terms : Terms) (bytes : Answer (List ℕ)) (source before after out out′ : List ℕ) : Type 0 where
+  pub table : after ≡ tableWritten terms bytes source before
   pub output : out′ ≡ outputAfter bytes out
 
 -- demands 1 and 2 for a service that writes: the answer, and all that it leaves, for every input
-pub record Writes (bytes : Answer (List ℕ)) (source before after out out′ : List ℕ) (r : Writing) : Type 0 where
+pub record Writes (terms : Terms) (bytes : Answer (List ℕ)) (source before after out out′ : List ℕ) (r : Writing) : Type 0 where
   pub answer : writingAnswer r ≡ lengthOf bytes
-  pub leaves : Leaves bytes source before after out out′
+  pub leaves : Leaves terms bytes source before after out out′

@@ -16,7 +16,7 @@ ghost use mathlib.Core.Path.{_≡_};
 ghost use mathlib.Core.Bool.{true};
 ghost use lib.ListN.{length};
 ghost use Rattle.format.specs.Answer.{refusalOf};
-ghost use Rattle.format.specs.Reading.{capacityOf};
+ghost use Rattle.format.specs.Reading.{termsOf};
 ghost use Rattle.format.specs.Writing.{fitsIn, canonicalBytes, insertBytes};
 ghost use Rattle.placing.specs.Locating.{placingAnswer};
 ghost use Rattle.editor.specs.Promise.{Writes};
@@ -153,7 +153,7 @@ fn write_plan(
 
 // Retyping: writes the canonical text of a plan, and leaves the table that reading it leaves. A refusal writes nothing, and makes every word of the table zero.
 pub fn canonicalize(source: &[u8], table: &mut [u64], out: &mut [u8]) -> Writing
-    ensures { λ r. ⌜ Writes (canonicalBytes (capacityOf (now (table .entry))) (length (now (out .entry))) (now (source .entry)))
+    ensures { λ r. ⌜ Writes (termsOf (now (table .entry))) (canonicalBytes (termsOf (now (table .entry))) (length (now (out .entry))) (now (source .entry)))
         (now (source .entry)) (now (table .entry)) (now (table .exit)) (now (out .entry)) (now (out .exit)) r ⌝ }
 {
     match reader::read(source, table) {
@@ -189,7 +189,7 @@ pub fn insert(
     table: &mut [u64],
     out: &mut [u8],
 ) -> Writing
-    ensures { λ r. ⌜ Writes (insertBytes (capacityOf (now (table .entry))) (length (now (out .entry))) (now (source .entry))
+    ensures { λ r. ⌜ Writes (termsOf (now (table .entry))) (insertBytes (termsOf (now (table .entry))) (length (now (out .entry))) (now (source .entry))
         «array_node» «pair_index» (now (key .entry)) (now (value .entry)))
         (now (source .entry)) (now (table .entry)) (now (table .exit)) (now (out .entry)) (now (out .exit)) r ⌝ }
 {

@@ -1,7 +1,7 @@
 -- What reading answers and leaves: the counts are the table's, and the table keeps its length. Assumes nothing.
 use mathlib.Core.Path.{_≡_, refl, sym, ap, ap₂, _∙_}
 use mathlib.Core.List.{List, [], _∷_, _++_}
-use Prim.Native.Nat.{ℕ, zero, suc, _*_, _≤_}
+use Prim.Native.Nat.{ℕ, zero, suc, _*_, _/_, _≤_}
 use native.Mathlib.Omega.{arith}
 use lib.ListN.{length, drop, replicate, length-append, length-drop, length-replicate}
 use Rattle.format.specs.Tree.{nodes, ordinals}
@@ -11,7 +11,7 @@ use Rattle.format.specs.Answer.{Answer, ok, refused}
 use Rattle.format.specs.Read.{read}
 use Rattle.format.specs.Table.{Node, width, flat, targetOf, tableOf}
 use Rattle.format.specs.Shows.{ordinalsOf, upFrom}
-use Rattle.format.specs.Reading.{capacityOf, answer, over, filled, tableAfter}
+use Rattle.format.specs.Reading.{capacityOf, termsOf, answer, over, filled, tableAfter}
 use Rattle.format.proofs.Inversion.{read-ok}
 use Rattle.format.proofs.Rows.{table-length}
 use Rattle.format.proofs.Ordinals.{ordinals-in-order}
@@ -69,3 +69,7 @@ filled-length terms source t r (refused n p) e = length-replicate (length t) 0
 pub after-length : (terms : Terms) (source t : List ℕ) → terms .capacity ≤ capacityOf t → length (tableAfter terms source t) ≡ length t
 unfolding tableAfter
 after-length terms source t r = filled-length terms source t r (read terms source) refl
+
+-- so what a service goes by stays
+pub after-terms : (source t : List ℕ) → termsOf (tableAfter (termsOf t) source t) ≡ termsOf t
+after-terms source t = ap (λ (n : ℕ). record { capacity = n / width }) (after-length (termsOf t) source t (omega arith))

@@ -1,15 +1,16 @@
 -- From reading to the place. Assumes nothing.
-use Prim.Native.Nat.{ℕ, _/_}
+use Prim.Native.Nat.{ℕ}
+use native.Mathlib.Omega.{arith}
 use mathlib.Core.Path.{_≡_, sym, ap, _∙_, subst}
 use mathlib.Core.List.{List}
 use lib.ListN.{length, replicate}
+use Rattle.format.specs.Limits.{Terms}
 use Rattle.format.specs.Fits.{IsPlan}
 use Rattle.format.specs.Answer.{Answer, refused, refusalOf}
 use Rattle.format.specs.declared.codes.Refusal.{Refusal}
-use Rattle.format.specs.Table.{width}
-use Rattle.format.specs.Reading.{capacityOf, cleared, Counts}
+use Rattle.format.specs.Reading.{termsOf, cleared, Counts}
 use Rattle.format.proofs.Inversion.{read-ok}
-use Rattle.format.proofs.Results.{after-accepted, after-refused, after-length}
+use Rattle.format.proofs.Results.{after-accepted, after-refused, after-length, after-terms}
 use Rattle.format.specs.Read.{read}
 use Rattle.insertion.proofs.Steps.{reading, row-step}
 use Rattle.reader.specs.declared.Reading.{Reading}
@@ -20,10 +21,10 @@ use Rattle.placing.specs.declared.Placing.{Placing}
 use Rattle.placing.specs.Placing.{Given, FindsSpot}
 use Rattle.placing.specs.Locating.{placingAnswer, spotFor, tableLocated, Locates}
 
-unread : (s : List ℕ) (capacity node place : ℕ) (key value : List ℕ) {c p : ℕ} → read capacity s ≡ refused c p
-    → spotFor capacity s node place key value ≡ refused c p
+unread : (s : List ℕ) (terms : Terms) (node place : ℕ) (key value : List ℕ) {c p : ℕ} → read terms s ≡ refused c p
+    → spotFor terms s node place key value ≡ refused c p
 unfolding spotFor
-unread s capacity node place key value {c} {p} u = rw (row-step capacity s node place key value c p (reading c p u))
+unread s terms node place key value {c} {p} u = rw (row-step terms s node place key value c p (reading c p u))
 
 module _ {s t t′ : List ℕ} {reading : Reading} (r : Reads s t t′ reading) where
   -- ---- reading's refusal is inserting's
@@ -33,43 +34,43 @@ module _ {s t t′ : List ℕ} {reading : Reading} (r : Reads s t t′ reading) 
   unfolding readingAnswer
   locates-unread node place key value {code} {at} e h =
       let u = refusal (subst (Reads s t t′) e r) in
-      let told : spotFor (capacityOf t) s node place key value ≡ refused code at = unread s (capacityOf t) node place key value u in
+      let told : spotFor (termsOf t) s node place key value ≡ refused code at = unread s (termsOf t) node place key value u in
       record {
         answer = ap (λ (r : Refusal). refused (r .code) (r .at)) (h ∙ ap (λ (x : Reading). refusalOf (readingAnswer x)) e) ∙ sym told;
-        table = r .table ∙ after-refused s t code at u ∙ ap (λ (a : Answer Spot). tableLocated a s t) (sym told);
+        table = r .table ∙ after-refused (termsOf t) s t code at u ∙ ap (λ (a : Answer Spot). tableLocated (termsOf t) a s t) (sym told);
       }
 
   -- ---- a plan that was read
 
   module _ {nodes ordinals : ℕ} (e : reading ≡ Reading.Accepted nodes ordinals) where
     same-length : length t′ ≡ length t
-    same-length = ap length (r .table) ∙ after-length s t
+    same-length = ap length (r .table) ∙ after-length (termsOf t) s t (omega arith)
 
-    same-capacity : capacityOf t′ ≡ capacityOf t
-    same-capacity = ap (λ (n : ℕ). n / width) same-length
+    same-terms : termsOf t′ ≡ termsOf t
+    same-terms = ap termsOf (r .table) ∙ after-terms s t
 
     pub given : Given s t′ nodes
     given =
         let a = accepted (subst (Reads s t t′) e r) in
         record {
           value = a .value;
-          plan = subst (λ (c : ℕ). IsPlan c s (a .value)) (sym same-capacity) (read-ok (capacityOf t) s (a .value) (a .read));
+          plan = subst (λ (c : Terms). IsPlan c s (a .value)) (sym same-terms) (read-ok (termsOf t) s (a .value) (a .read));
           counted = ap (λ (c : Counts). c .nodes) (a .counted);
           rest = _;
-          table = r .table ∙ after-accepted s t (a .value) (a .read);
+          table = r .table ∙ after-accepted (termsOf t) s t (a .value) (a .read);
         }
 
     module _ (node place : ℕ) (key value : List ℕ) (placing : Placing) (p : FindsSpot s t′ node place key value placing) where
       -- the table that reading leaves has the room of the one given
-      answers : placingAnswer placing ≡ spotFor (capacityOf t) s node place key value
-      answers = p ∙ ap (λ (c : ℕ). spotFor c s node place key value) same-capacity
+      answers : placingAnswer placing ≡ spotFor (termsOf t) s node place key value
+      answers = p ∙ ap (λ (c : Terms). spotFor c s node place key value) same-terms
 
-      located : {t″ : List ℕ} → t″ ≡ tableLocated (placingAnswer placing) s t → Locates s node place key value t t″ placing
-      located z = record { answer = answers; table = z ∙ ap (λ (a : Answer Spot). tableLocated a s t) answers }
+      located : {t″ : List ℕ} → t″ ≡ tableLocated (termsOf t) (placingAnswer placing) s t → Locates s node place key value t t″ placing
+      located z = record { answer = answers; table = z ∙ ap (λ (a : Answer Spot). tableLocated (termsOf t) a s t) answers }
 
       pub locates-refused : {code at : ℕ} {t″ : List ℕ} → placing ≡ Placing.Refused code at → t″ ≡ cleared t′ → Locates s node place key value t t″ placing
       locates-refused f z =
-          located (z ∙ ap (λ (n : ℕ). replicate n 0) same-length ∙ ap (λ (x : Placing). tableLocated (placingAnswer x) s t) (sym f))
+          located (z ∙ ap (λ (n : ℕ). replicate n 0) same-length ∙ ap (λ (x : Placing). tableLocated (termsOf t) (placingAnswer x) s t) (sym f))
 
       pub locates-at : {spot : Spot} → placing ≡ Placing.At spot → Locates s node place key value t t′ placing
-      locates-at f = located (r .table ∙ ap (λ (x : Placing). tableLocated (placingAnswer x) s t) (sym f))
+      locates-at f = located (r .table ∙ ap (λ (x : Placing). tableLocated (termsOf t) (placingAnswer x) s t) (sym f))

@@ -5,8 +5,9 @@ use mathlib.Core.Path.{_≡_, refl, ap, _∙_}
 use Rattle.decimal.specs.Digits.{decimal, decimalIn}
 use Rattle.format.specs.Bytes.{bytes}
 use Rattle.format.specs.Syntax.{write}
+use Rattle.format.specs.Limits.{Terms}
 use Rattle.format.specs.Answer.{ok}
-use Rattle.format.specs.Read.{digits, number, intText, keyText, readKey, readBranch, readBody, read}
+use Rattle.format.specs.Read.{digits, number, intText, scalarText, countText, headText, keyText, readKey, readBranch, readScalar, readBody, readIn}
 use Rattle.format.specs.Writing.{keyOf, scalarOf, insertionOf}
 use Rattle.format.proofs.Answers.{ok-same}
 use Rattle.tokens.specs.Tokens.{readToken, tokenBehind}
@@ -20,8 +21,11 @@ abbrev spot : (ordinal : ℕ) → Spot
 spot n = record { at = 0; inside = 5; gap = 5; count = 0; ordinal = n }
 
 -- into `a:0:{}`, whose new value has ordinal 2
-pub empty-array : spotFor 3 (bytes "a:0:{}") 0 0 (bytes "i:0;") (bytes "N;") ≡ ok (record { at = 0; inside = 5; gap = 5; count = 0; ordinal = 2 })
-unfolding spotFor insertionOf keyOf scalarOf read readBody readBranch readKey keyText digits number intText decimal decimalIn write
+abbrev pub threeNodes : Terms
+threeNodes = record { capacity = 3 }
+
+pub empty-array : spotFor threeNodes (bytes "a:0:{}") 0 0 (bytes "i:0;") (bytes "N;") ≡ ok (record { at = 0; inside = 5; gap = 5; count = 0; ordinal = 2 })
+unfolding spotFor insertionOf keyOf scalarOf readIn readBody readScalar readBranch readKey keyText headText countText scalarText digits number intText decimal decimalIn write
 empty-array = refl
 
 -- no reference stands there, so every ordinal gives the same bytes
@@ -29,5 +33,5 @@ pub same-bytes : insertedText (bytes "a:0:{}") (bytes "i:0;") (bytes "N;") (spot
 unfolding tokensBetween readToken tokenBehind
 same-bytes = refl
 
-pub no-other : (p : Spot) → placingAnswer (Placing.At p) ≡ spotFor 3 (bytes "a:0:{}") 0 0 (bytes "i:0;") (bytes "N;") → p .ordinal ≡ 999 → ⊥
+pub no-other : (p : Spot) → placingAnswer (Placing.At p) ≡ spotFor threeNodes (bytes "a:0:{}") 0 0 (bytes "i:0;") (bytes "N;") → p .ordinal ≡ 999 → ⊥
 no-other p e f = omega (arith, f, ap (λ (q : Spot). q .ordinal) (ok-same (e ∙ empty-array)))

@@ -6,9 +6,9 @@ use mathlib.Core.Bool.{true}
 use mathlib.Core.List.{List}
 use lib.ListN.{length}
 use Rattle.format.specs.Syntax.{Key, Scalar}
-use Rattle.format.specs.Limits.{sourceLimit}
+use Rattle.format.specs.Limits.{sourceLimit, Terms}
 use Rattle.format.specs.Answer.{Answer, ok}
-use Rattle.format.specs.Reading.{capacityOf}
+use Rattle.format.specs.Reading.{termsOf}
 use Rattle.format.specs.Writing.{Site, withRoom, Insertion, insertionOf, insertBytes}
 use Rattle.format.proofs.Answers.{ok-same, bind-ok}
 use Rattle.insertion.proofs.Steps.{WithNodes, passes, steps-pass}
@@ -42,9 +42,9 @@ module _ {s t : List ℕ} {n : ℕ} {g : Given s t n} {node place : ℕ} {key va
     abbrev pub spot-ahead : SpotAhead s (x .at) (gap - (node + 1))
     spot-ahead = gaps.spot-ahead (g .value) (g .plan .fits .valid) node site (f .array .at) place s (g .plan .printed) x (r ahead) gap (gap-is f)
 
-    pub spot-found : WithNodes (capacityOf t) s node place key value (g .value) (f .array .site) (f .pair .keyed .key) (f .pair .scalar)
+    pub spot-found : WithNodes (termsOf t) s node place key value (g .value) (f .array .site) (f .pair .keyed .key) (f .pair .scalar)
         → {z : Spot} → ((a : SpotAhead s (x .at) (gap - (node + 1))) → SpotIs s (a .head .rest) (a .rest) (x .at) m new z)
-        → ok z ≡ spotFor (capacityOf t) s node place key value
+        → ok z ≡ spotFor (termsOf t) s node place key value
     unfolding spotFor
     spot-found enough {z} i =
         let k : Key = f .pair .keyed .key in
@@ -52,23 +52,23 @@ module _ {s t : List ℕ} {n : ℕ} {g : Given s t n} {node place : ℕ} {key va
         ap {B = Answer Spot} (λ u. ok u)
         (gaps.spot-is (g .value) (g .plan .fits .valid) node site (f .array .at) place s (g .plan .printed) k y x (r ahead) m new z (i spot-ahead)
         (f .array .counted) (new-is f))
-        ∙ sym (rw (steps-pass (capacityOf t) s node place key value (g .value) site k y enough))
+        ∙ sym (rw (steps-pass (termsOf t) s node place key value (g .value) site k y enough))
 
 -- ---- what that spot leads to
 
 -- no refusal before 14: rewriting writes the bytes, "the old ones with three changes", for an array's head stands at the spot, and tokens fill the source
 -- around it and the gap
-pub record Located (capacity : ℕ) (s : List ℕ) (node place : ℕ) (key value : List ℕ) (p : Spot) : Type 0 where
+pub record Located (terms : Terms) (s : List ℕ) (node place : ℕ) (key value : List ℕ) (p : Spot) : Type 0 where
   pub stands : stands (length s) p ≡ true
   pub parted : Parted s p
   pub short : length s ≤ sourceLimit
-  pub bytes : (room : ℕ) → insertBytes capacity room s node place key value ≡ withRoom room (insertedText s key value p)
+  pub bytes : (room : ℕ) → insertBytes terms room s node place key value ≡ withRoom room (insertedText s key value p)
 
-module _ (capacity : ℕ) (s : List ℕ) (node place : ℕ) (key value : List ℕ) where
-  leads : (i : Insertion) → insertionOf capacity s node place key value ≡ ok i → Located capacity s node place key value (spotOf place i)
+module _ (terms : Terms) (s : List ℕ) (node place : ℕ) (key value : List ℕ) where
+  leads : (i : Insertion) → insertionOf terms s node place key value ≡ ok i → Located terms s node place key value (spotOf place i)
   unfolding insertBytes
   leads i d =
-      let pair = passes capacity s node place key value i d .level .fresh .pair in
+      let pair = passes terms s node place key value i d .level .fresh .pair in
       let array = pair .spot .array in
       let was = array .was in
       let e : Inserts s (spotOf place i) =
@@ -83,8 +83,8 @@ module _ (capacity : ℕ) (s : List ℕ) (node place : ℕ) (key value : List �
             (pair .value-is) ∙ sym (inserted-is e key value)));
       }
 
-  pub spot-leads : (p : Spot) → spotFor capacity s node place key value ≡ ok p → Located capacity s node place key value p
+  pub spot-leads : (p : Spot) → spotFor terms s node place key value ≡ ok p → Located terms s node place key value p
   unfolding spotFor
   spot-leads p e =
-      let a = bind-ok (insertionOf capacity s node place key value) _ p e in
-      subst (Located capacity s node place key value) (ok-same (a .2)) (leads (a .0) (a .1))
+      let a = bind-ok (insertionOf terms s node place key value) _ p e in
+      subst (Located terms s node place key value) (ok-same (a .2)) (leads (a .0) (a .1))

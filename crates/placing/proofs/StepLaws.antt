@@ -16,7 +16,7 @@ use Rattle.format.specs.Limits.{depthLimit}
 use Rattle.format.specs.Answer.{Answer, ok, refused}
 use Rattle.format.specs.Table.{Node, width, wordAt, tagWord, flat, tableOf}
 use Rattle.format.specs.Shows.{nodeAt}
-use Rattle.format.specs.Reading.{capacityOf}
+use Rattle.format.specs.Reading.{termsOf, capacityOf}
 use Rattle.format.specs.Edit.{keys, upto, newOrdinal}
 use Rattle.format.specs.Writing.{Site, arrayAt}
 use Rattle.format.proofs.Results.{flat-length, tableOf-length}
@@ -43,11 +43,11 @@ module _ {s t : List ℕ} {n : ℕ} (g : Given s t n) where
 
   module _ (node place : ℕ) (key value : List ℕ) where
     abbrev pub RefusedWith : (code at : ℕ) → Type 0
-    RefusedWith c p = refused c p ≡ spotFor (capacityOf t) s node place key value
+    RefusedWith c p = refused c p ≡ spotFor (termsOf t) s node place key value
 
-    refuses : (c p : ℕ) → StepRow (capacityOf t) s node place key value c p → RefusedWith c p
+    refuses : (c p : ℕ) → StepRow (termsOf t) s node place key value c p → RefusedWith c p
     unfolding spotFor
-    refuses c p r = sym (rw (row-step (capacityOf t) s node place key value c p r))
+    refuses c p r = sym (rw (row-step (termsOf t) s node place key value c p r))
 
     -- ---- 11
 
@@ -90,7 +90,7 @@ module _ {s t : List ℕ} {n : ℕ} {g : Given s t n} {node place : ℕ} {key va
   abbrev v : Value
   v = g .value
 
-  at-array : AtArray (capacityOf t) s node place key value v (h .site)
+  at-array : AtArray (termsOf t) s node place key value v (h .site)
   at-array = record { was = g .plan; at = h .at }
 
   -- ---- 12
@@ -110,7 +110,7 @@ module _ {s t : List ℕ} {n : ℕ} {g : Given s t n} {node place : ℕ} {key va
     pub within : place ≤ count (h .site .pairs)
     within = omega (arith, b .within, h .counted)
 
-    at-place : AtPlace (capacityOf t) s node place key value v (h .site)
+    at-place : AtPlace (termsOf t) s node place key value v (h .site)
     at-place = record { array = at-array; within = within }
 
     -- ---- 13
@@ -149,7 +149,7 @@ module _ {s t : List ℕ} {n : ℕ} {g : Given s t n} {node place : ℕ} {key va
       f .spot .next ∙ ap (λ (c : ℕ). c + carriers t (node + 1) (pairNode t (node + 1) place - (node + 1)) + 1) (f .array .numbered)
       ∙ words.gap-ordinal (g .value) t (g .rest) (g .table) node site (f .array .at) place (within (f .array) (f .spot))
 
-  with-pair : WithPair (capacityOf t) s node place key value (g .value) site k x
+  with-pair : WithPair (termsOf t) s node place key value (g .value) site k x
   with-pair = record {
     spot = at-place (f .array) (f .spot);
     key-is = f .pair .keyed .written;
@@ -180,7 +180,7 @@ module _ {s t : List ℕ} {n : ℕ} {g : Given s t n} {node place : ℕ} {key va
   Fresh = not (keyAmong s key w t (node + 1) m) ≡ true
 
   module _ (fresh : Fresh) where
-    with-new-key : WithNewKey (capacityOf t) s node place key value (g .value) site k x
+    with-new-key : WithNewKey (termsOf t) s node place key value (g .value) site k x
     with-new-key = record { pair = with-pair; new = λ j i e. T-not (hasKey k (keys qs)) (T-of (ap not (sym among) ∙ fresh)) (has-equal k j (keys qs) i e) }
 
     -- ---- 8
@@ -192,7 +192,7 @@ module _ {s t : List ℕ} {n : ℕ} {g : Given s t n} {node place : ℕ} {key va
           refuses g node place key value 8 0 (tooDeep (g .value) site k x with-new-key (omega (arith, a, ltb-false (suc around) depthLimit d, deep)))
 
       module _ (d : ltb (suc around) depthLimit ≡ true) where
-        with-depth : WithDepth (capacityOf t) s node place key value (g .value) site k x
+        with-depth : WithDepth (termsOf t) s node place key value (g .value) site k x
         with-depth = record { fresh = with-new-key; shallow = omega (arith, a, ltb-true (suc around) depthLimit d) }
 
         -- ---- 7
@@ -202,5 +202,5 @@ module _ {s t : List ℕ} {n : ℕ} {g : Given s t n} {node place : ℕ} {key va
             refuses g node place key value 7 0 (noNodes (g .value) site k x with-depth (omega (arith, g .counted, leb-false (n + 2) (capacityOf t) r)))
 
         pub with-nodes : leb (n + 2) (capacityOf t) ≡ true
-            → WithNodes (capacityOf t) s node place key value (g .value) (f .array .site) (f .pair .keyed .key) (f .pair .scalar)
+            → WithNodes (termsOf t) s node place key value (g .value) (f .array .site) (f .pair .keyed .key) (f .pair .scalar)
         with-nodes r = record { level = with-depth; small = omega (arith, g .counted, leb-true (n + 2) (capacityOf t) r) }

@@ -5,8 +5,9 @@ use Prim.Native.Nat.{ℕ, zero, suc}
 use lib.ListN.{length}
 use Rattle.format.specs.Tree.{leaf, ref, branch, none, pair, TreePath, count}
 use Rattle.format.specs.Syntax.{Value, Values, writeKey, write, writePairs}
+use Rattle.format.specs.Limits.{Terms}
 use Rattle.format.specs.Answer.{Answer, ok, refused, _>>=_}
-use Rattle.format.specs.Reading.{capacityOf, cleared, tableAfter}
+use Rattle.format.specs.Reading.{termsOf, cleared, tableAfter}
 use Rattle.format.specs.Edit.{upto, newOrdinal}
 use Rattle.format.specs.Writing.{Insertion, insertionOf}
 use Rattle.tokens.specs.Tokens.{opening, writeToken}
@@ -56,16 +57,16 @@ spotOf p i = record {
 -- ---- the answer and the table
 
 -- "Inserting: reading, 11, 12, 13, 9 (new key present), 8 (array at depth 64), 7 (two more nodes), 14": all before 14
-unfoldable pub spotFor : (capacity : ℕ) → (source : List ℕ) → (node place : ℕ) → (key value : List ℕ) → Answer Spot
-spotFor capacity source node place key value = do
-  i ← insertionOf capacity source node place key value
+unfoldable pub spotFor : (terms : Terms) → (source : List ℕ) → (node place : ℕ) → (key value : List ℕ) → Answer Spot
+spotFor terms source node place key value = do
+  i ← insertionOf terms source node place key value
   ok (spotOf place i)
 
 -- the table is that of the plan given; a refusal "makes every word of the table zero"
-abbrev pub tableLocated : Answer Spot → (source table : List ℕ) → List ℕ
-tableLocated (ok p) source t = tableAfter source t
-tableLocated (refused n p) source t = cleared t
+abbrev pub tableLocated : Terms → Answer Spot → (source table : List ℕ) → List ℕ
+tableLocated terms (ok p) source t = tableAfter terms source t
+tableLocated terms (refused n p) source t = cleared t
 
 pub record Locates (s : List ℕ) (node place : ℕ) (key value t t′ : List ℕ) (r : Placing) : Type 0 where
-  pub answer : placingAnswer r ≡ spotFor (capacityOf t) s node place key value
-  pub table : t′ ≡ tableLocated (spotFor (capacityOf t) s node place key value) s t
+  pub answer : placingAnswer r ≡ spotFor (termsOf t) s node place key value
+  pub table : t′ ≡ tableLocated (termsOf t) (spotFor (termsOf t) s node place key value) s t

@@ -10,7 +10,7 @@ use Rattle.format.specs.Syntax.{Spelling, Value, writeNumber}
 use Rattle.format.specs.Limits.{numberLimit}
 use Rattle.format.specs.Fits.{IsPlan}
 use Rattle.format.specs.Table.{flat, tableOf}
-use Rattle.format.specs.Reading.{capacityOf}
+use Rattle.format.specs.Reading.{termsOf}
 use Rattle.rewriting.specs.declared.inserted.Spot.{Spot}
 use Rattle.placing.specs.declared.Placing.{Placing}
 use Rattle.placing.specs.Passing.{Ahead}
@@ -20,7 +20,7 @@ use Rattle.placing.specs.Locating.{placingAnswer, spotFor}
 
 pub record Given (s t : List ℕ) (n : ℕ) : Type 0 where
   pub value : Value
-  pub plan : IsPlan (capacityOf t) s value
+  pub plan : IsPlan (termsOf t) s value
   pub counted : n ≡ nodes value
   pub rest : List ℕ
   pub table : t ≡ flat (tableOf value) ++ rest
@@ -56,4 +56,4 @@ pub record SpotIs (s head rest : List ℕ) (at count ordinal : ℕ) (r : Spot) :
 -- ---- the steps between reading and writing
 
 abbrev pub FindsSpot : (s t : List ℕ) (node place : ℕ) (key value : List ℕ) → Placing → Type 0
-FindsSpot s t node place key value r = placingAnswer r ≡ spotFor (capacityOf t) s node place key value
+FindsSpot s t node place key value r = placingAnswer r ≡ spotFor (termsOf t) s node place key value

@@ -2,8 +2,9 @@
 use mathlib.Core.Path.{_≡_}
 use mathlib.Core.List.{List}
 use Prim.Native.Nat.{ℕ}
+use Rattle.format.specs.Limits.{Terms}
 use Rattle.format.specs.Answer.{Answer, ok, refused}
-use Rattle.format.specs.Reading.{capacityOf, Counts, answer, tableAfter}
+use Rattle.format.specs.Reading.{termsOf, Counts, answer, tableAfter}
 use Rattle.editor.specs.Promise.{lengthOf, Leaves}
 use Rattle.tonschnecke.specs.declared.reading.TonReading.{TonReading}
 use Rattle.tonschnecke.specs.declared.writing.TonWriting.{TonWriting}
@@ -15,8 +16,8 @@ readingOf (refused code at) = record { code = code; at = at; nodes = 0; ordinals
 
 -- demands 1 and 2 for reading, as C sees it: the whole struct, and every word of the table
 pub record TonReads (source before after : List ℕ) (r : TonReading) : Type 0 where
-  pub answer : r ≡ readingOf (answer (capacityOf before) source)
-  pub table : after ≡ tableAfter source before
+  pub answer : r ≡ readingOf (answer (termsOf before) source)
+  pub table : after ≡ tableAfter (termsOf before) source before
 
 -- and code 0 says that the bytes are written
 unfoldable pub writingOf : Answer ℕ → TonWriting
@@ -24,6 +25,6 @@ writingOf (ok size) = record { code = 0; at = 0; length = size }
 writingOf (refused code at) = record { code = code; at = at; length = 0 }
 
 -- the same for a service that writes a plan: the whole struct, every word of the table, every byte of the output
-pub record TonWrites (bytes : Answer (List ℕ)) (source before after out out′ : List ℕ) (r : TonWriting) : Type 0 where
+pub record TonWrites (terms : Terms) (bytes : Answer (List ℕ)) (source before after out out′ : List ℕ) (r : TonWriting) : Type 0 where
   pub answer : r ≡ writingOf (lengthOf bytes)
-  pub leaves : Leaves bytes source before after out out′
+  pub leaves : Leaves terms bytes source before after out out′

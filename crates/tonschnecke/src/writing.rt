@@ -3,7 +3,7 @@ use editor::Writing;
 ghost use mathlib.Core.Path.{_≡_};
 ghost use lib.ListN.{length};
 ghost use Rattle.format.specs.Writing.{canonicalBytes, insertBytes};
-ghost use Rattle.format.specs.Reading.{capacityOf};
+ghost use Rattle.format.specs.Reading.{termsOf};
 ghost use Rattle.editor.specs.Promise.{writingAnswer};
 ghost use Rattle.tonschnecke.specs.Promise.{writingOf, TonWrites};
 
@@ -36,7 +36,7 @@ fn as_struct(writing: Writing) -> TonWriting
 // Writes the canonical text of a plan, and leaves the table that reading it leaves. A refusal writes nothing, and makes every word of the table zero.
 #[no_mangle]
 pub extern "C" fn ton_canonicalize(source: &[u8], table: &mut [u64], out: &mut [u8]) -> TonWriting
-    ensures { λ r. ⌜ TonWrites (canonicalBytes (capacityOf (now (table .entry))) (length (now (out .entry))) (now (source .entry)))
+    ensures { λ r. ⌜ TonWrites (termsOf (now (table .entry))) (canonicalBytes (termsOf (now (table .entry))) (length (now (out .entry))) (now (source .entry)))
         (now (source .entry)) (now (table .entry)) (now (table .exit)) (now (out .entry)) (now (out .exit)) r ⌝ }
 {
     as_struct(editor::canonicalize(source, table, out))
@@ -54,7 +54,7 @@ pub extern "C" fn ton_insert(
     table: &mut [u64],
     out: &mut [u8],
 ) -> TonWriting
-    ensures { λ r. ⌜ TonWrites (insertBytes (capacityOf (now (table .entry))) (length (now (out .entry))) (now (source .entry))
+    ensures { λ r. ⌜ TonWrites (termsOf (now (table .entry))) (insertBytes (termsOf (now (table .entry))) (length (now (out .entry))) (now (source .entry))
         «array_node» «pair_index» (now (key .entry)) (now (value .entry)))
         (now (source .entry)) (now (table .entry)) (now (table .exit)) (now (out .entry)) (now (out .exit)) r ⌝ }
 {

@@ -34,7 +34,7 @@ returns : tie.Need-returns
 returns c =
     let read = c .before .before .before .before .before in
     let refused = promised.refusal (subst (Reads _ _ _) (c .before .code .given .1) (read .read .ensures)) in
-    ended.writes-refused _ _ _ (read-refused _ _ _ _ _ refused) (read .read .ensures .table ∙ after-refused _ _ _ _ refused)
+    ended.writes-refused _ _ _ (read-refused _ _ _ _ _ refused) (read .read .ensures .table ∙ after-refused _ _ _ _ _ refused)
 
 same-length-2 : tie.Need-same-length-2
 same-length-2 c = search needs
