@@ -36,8 +36,8 @@ use Rattle.rewriting.specs.declared.rewrite.Change.{Change}
 use Rattle.rewriting.specs.Output.{Puts}
 use Rattle.rewriting.specs.Rewriting.{changedText}
 use Rattle.rewriting.specs.Edited.{canonicalText, editedText, writable, editedAnswer, Edits, Parted}
-use Rattle.rewriting.specs.declared.inserted.Spot.{Spot}
-use Rattle.rewriting.proofs.Editable.{answer-by, output-by, by-spot, edited-most}
+use Rattle.rewriting.specs.declared.splice.Splice.{Splice}
+use Rattle.rewriting.proofs.Editable.{answer-by, output-by, by-stands, edited-most}
 use Rattle.rewriting.proofs.Measures.{texts-inside, canonical-text-most}
 use Rattle.placing.specs.declared.Placing.{Placing}
 use Rattle.placing.specs.Locating.{placingAnswer, spotFor, tableLocated, Locates}
@@ -133,7 +133,7 @@ is-short room source key value h i j e = record { enough = h; low = omega (arith
 -- an edit of a plan is one that is written, unless its texts are too long
 fit-writable : (source : List ℕ) (e : Edit) (key value : List ℕ) → EditFits source e key value → length key ≤ sourceLimit → length value ≤ sourceLimit
     → writable (length source) e (length key) (length value) ≡ true
-fit-writable source e key value z h i = by-spot (length source) e (length key) (length value) (z .short) h i ∙ z .inside
+fit-writable source e key value z h i = by-stands (length source) e (length key) (length value) (z .short) h i ∙ z .inside
 
 short-room : {room : ℕ} (source : List ℕ) (e : Edit) (key value : List ℕ) → Short room (length source) (length key) (length value) → EditFits source e key value
     → fitsIn room (length (editedText source e key value)) ≡ true
@@ -250,7 +250,7 @@ module _ (terms : Terms) (source : List ℕ) (v : Value) (e : read terms source 
     value = omega arith;
   }
     where
-      never : {p : Spot} → Edit.Canonical ≡ Edit.Insert p → ⊥
+      never : {p : Splice} → Edit.Canonical ≡ Edit.Splice p → ⊥
       never i = let z : _≡_ {A = ℕ} 0 1 = cc in omega arith
 
   pub canonical-written : (room : ℕ) → canonicalBytes terms room source ≡ withRoom room (canonicalText source)
@@ -261,29 +261,29 @@ module _ (terms : Terms) (source : List ℕ) (v : Value) (e : read terms source 
 -- the spot of what was placed, and what it leads to
 module _ {source : List ℕ} {node place : ℕ} {key value before after : List ℕ} {placing : Placing}
     (l : Locates source node place key value before after placing) where
-  module _ {p : Spot} (e : placing ≡ Placing.At p) where
+  module _ {p : Splice} (e : placing ≡ Placing.At p) where
     spot-is : spotFor (termsOf before) source node place key value ≡ ok p
     spot-is = sym (l .answer) ∙ ap placingAnswer e
 
     pub spot-table : after ≡ tableAfter (termsOf before) source before
-    spot-table = l .table ∙ ap (λ (a : Answer Spot). tableLocated (termsOf before) a source before) spot-is
+    spot-table = l .table ∙ ap (λ (a : Answer Splice). tableLocated (termsOf before) a source before) spot-is
 
     pub located : Located (termsOf before) source node place key value p
     located = spot-leads (termsOf before) source node place key value p spot-is
 
-    pub insert-sound : EditFits source (Edit.Insert p) key value
+    pub insert-sound : EditFits source (Edit.Splice p) key value
     insert-sound =
         let t = texts-inside source key value p in
         record {
           short = located .short;
           inside = located .stands;
-          parted = λ q i. subst (Parted source) (same-spot i) (located .parted);
+          parted = λ q i. subst (λ (r : Splice). Parted source r × (r .renumbering .up ≤ 1)) (same-splice i) (located .parted, located .by-one);
           key = t .0;
           value = t .1;
         }
       where
-        same-spot : {q r : Spot} → Edit.Insert q ≡ Edit.Insert r → q ≡ r
-        same-spot i = cc
+        same-splice : {q r : Splice} → Edit.Splice q ≡ Edit.Splice r → q ≡ r
+        same-splice i = cc
 
   module _ {code at : ℕ} (e : placing ≡ Placing.Refused code at) where
     refused-is : spotFor (termsOf before) source node place key value ≡ refused code at
@@ -302,4 +302,4 @@ module _ {source : List ℕ} {node place : ℕ} {key value before after : List �
     writes-unplaced out h =
         writes-refused source before out
         (insert-refused (length out) ∙ ap (λ (r : Refusal). refused (r .code) (r .at)) (sym (h ∙ ap (λ (x : Placing). refusalOf (placingAnswer x)) e)))
-        (l .table ∙ ap (λ (a : Answer Spot). tableLocated (termsOf before) a source before) refused-is)
+        (l .table ∙ ap (λ (a : Answer Splice). tableLocated (termsOf before) a source before) refused-is)

@@ -9,8 +9,8 @@ use Rattle.format.specs.Answer.{Answer, ok, refused, _>>=_, require}
 use Rattle.format.specs.Reading.{termsOf, cleared, tableAfter}
 use Rattle.format.specs.Writing.{fitsIn, withRoom}
 use Rattle.rewriting.specs.declared.Edit.{Edit}
-use Rattle.rewriting.specs.declared.inserted.Spot.{Spot}
-use Rattle.rewriting.specs.Edited.{editedText, spotInside, Parted}
+use Rattle.rewriting.specs.declared.splice.Splice.{Splice}
+use Rattle.rewriting.specs.Edited.{editedText, editStands, Parted}
 use Rattle.editor.specs.declared.Room.{Room}
 use Rattle.editor.specs.declared.Writing.{Writing}
 use Rattle.editor.specs.Promise.{writingAnswer, Writes}
@@ -44,11 +44,11 @@ pub data Spared (room : ℕ) : Edit → (source key value : ℕ) → Type 0 wher
   shrinks : {source key value : ℕ} → fitsIn room source ≡ true → Spared room Edit.Canonical source key value
   short : {e : Edit} {source key value : ℕ} → Short room source key value → Spared room e source key value
 
--- an edit of a plan that was read: it has its place there, and its texts are part of what is written
+-- an edit of a plan that was read: it has its place there, between tokens, no reference rises by more than one, and its texts are part of what is written
 pub record EditFits (s : List ℕ) (e : Edit) (k v : List ℕ) : Type 0 where
   pub short : length s ≤ sourceLimit
-  pub inside : spotInside (length s) e ≡ true
-  pub parted : (p : Spot) → e ≡ Edit.Insert p → Parted s p
+  pub inside : editStands (length s) e ≡ true
+  pub parted : (p : Splice) → e ≡ Edit.Splice p → Parted s p × (p .renumbering .up ≤ 1)
   pub key : length k ≤ length (editedText s e k v)
   pub value : length v ≤ length (editedText s e k v)
 

@@ -24,7 +24,7 @@ ghost use Rattle.rewriting.specs.Edited.{editedAnswer};
 ghost use Rattle.editor.specs.Ends.{roomAnswer, roomOf, Refuses, Settles, Short, Spared, EditFits, Roomed, Finishes};
 
 // What is written of so short a source, key and value is never longer than a plan may be (`edited-most`, crates/rewriting): a reference has four bytes or more
-// and grows by one at the most, and the parts of an insertion are stretches of the source (`spot-leads`, crates/placing). So five quarters of the source, both
+// and grows by one at the most, and the parts of a splice are stretches of the source (`spot-leads`, crates/placing). So five quarters of the source, both
 // texts and a head of nine bytes are at most 65,259.
 const SHORT_SOURCE: usize = 49000;
 
@@ -95,7 +95,7 @@ fn is_spared(room: usize, edit: Edit, source: usize, key: usize, value: usize) -
 {
     match edit {
         Edit::Canonical => has_room(room, source),
-        Edit::Insert(_) => is_short(room, source, key, value),
+        Edit::Splice(_) => is_short(room, source, key, value),
     }
 }
 
@@ -168,7 +168,7 @@ pub fn canonicalize(source: &[u8], table: &mut [u64], out: &mut [u8]) -> Writing
     }
 }
 
-// Placing's refusal; 0 at 0 for a spot, since no refusal has number 0.
+// Placing's refusal; 0 at 0 for a splice, since no refusal has number 0.
 fn refusal_of(placing: Placing) -> Refusal
     ensures { λ r. ⌜ r ≡ refusalOf (placingAnswer placing) ⌝ }
 {
@@ -194,12 +194,12 @@ pub fn insert(
         (now (source .entry)) (now (table .entry)) (now (table .exit)) (now (out .entry)) (now (out .exit)) r ⌝ }
 {
     let placing = locate(source, array_node, pair_index, key, value, table);
-    let Placing::At(spot) = placing else {
+    let Placing::At(splice) = placing else {
         let refusal = refusal_of(placing);
         return Writing::Refused {
             code: refusal.code,
             at: refusal.at,
         };
     };
-    write_plan(source, Edit::Insert(spot), key, value, table, out)
+    write_plan(source, Edit::Splice(splice), key, value, table, out)
 }

@@ -2,7 +2,7 @@ pub mod Arrays
 pub mod SiteRows
 pub mod Grown
 pub mod Meanings
-mod Sizes
+pub mod Sizes
 mod Kept
 pub mod PairTexts
 pub mod Steps

@@ -67,7 +67,7 @@ mutual
   ordinalsIn-most none = omega arith
   ordinalsIn-most (pair k v ps) = omega (arith, ordinals-most v, ordinalsIn-most ps)
 
-count-most : (ps : Values) → count ps ≤ nodesIn ps
+pub count-most : (ps : Values) → count ps ≤ nodesIn ps
 count-most none = omega arith
 count-most (pair k v ps) = omega (arith, count-most ps)
 

@@ -17,20 +17,25 @@ use Rattle.format.specs.Canonical.{shortest}
 use Rattle.format.specs.Edit.{putPair, atPath, upto, countShortest, newOrdinal, insert}
 use Rattle.format.specs.Writing.{Site}
 use Rattle.insertion.specs.Ways.{WayTo}
-use Rattle.insertion.proofs.SiteRows.{site-valid}
+use Rattle.insertion.proofs.SiteRows.{site-valid, site-inside}
+use Rattle.insertion.proofs.Sizes.{write-longer, count-most}
 use Rattle.scanner.specs.declared.Text.{Text}
 use Rattle.scanner.specs.Scans.{Found}
 use Rattle.tokens.specs.Tokens.{Token, readToken, tokenTold, scalar, opening, closing, keyScalar, tokens, tokensIn, writeToken, writeTokens, raisedToken}
 use Rattle.tokens.specs.Tokens.{AllFit}
 use Rattle.tokens.proofs.TokenLaws.{tokens-write, tokensIn-write, tokens-append, all-append, tokens-fit, token-front, tokens-front, key-written}
 use Rattle.tokens.proofs.Standing.{standing, never-unfit}
-use Rattle.rewriting.specs.declared.inserted.Spot.{Spot}
+use Rattle.rewriting.specs.declared.splice.Renumbering.{Renumbering}
+use Rattle.rewriting.specs.declared.splice.Splice.{Splice}
+use Rattle.rewriting.specs.declared.rewrite.Change.{Change}
+use Rattle.rewriting.specs.Rewriting.{raising, changedText}
+use Rattle.rewriting.proofs.Raised.{raised-tokens}
 use Rattle.placing.specs.declared.pass.Passed.{Passed}
 use Rattle.placing.specs.Passing.{Ahead, Reached}
-use Rattle.placing.specs.Locating.{before, nothing, pairsBefore, spotOf}
+use Rattle.placing.specs.Locating.{before, nothing, pairsBefore, spliceOf}
 use Rattle.placing.specs.Placing.{HeadAhead, BehindHead, SpotAhead, SpotIs}
 use Rattle.placing.proofs.PairParts.{after}
-use Rattle.placing.proofs.InsertedTexts.{Inserts, pieces}
+use Rattle.placing.proofs.SplicedTexts.{Splices, pieces}
 use Rattle.placing.proofs.Sites.{SiteTokens, site-tokens, nodes-pairs, balanced-pairs, put-count, put-tokens, parts, tokens-raised}
 
 pub fit-front : (xs ys : List Token) → AllFit (xs ++ ys) → AllFit xs
@@ -53,8 +58,9 @@ module _ {s : List ℕ} (front rest : List ℕ) (e : s ≡ front ++ rest) where
   index-is : {i : ℕ} → drop i s ≡ rest → i ≤ length s → i ≡ length front
   index-is {i} d h = omega (arith, ap length e, length-append front rest, ap length d, length-drop i s)
 
-same-spot : (p q : Spot) → p .at ≡ q .at → p .inside ≡ q .inside → p .gap ≡ q .gap → p .count ≡ q .count → p .ordinal ≡ q .ordinal → p ≡ q
-same-spot p q a b c d e = λ i. record { at = a i; inside = b i; gap = c i; count = d i; ordinal = e i }
+same-spot : (p q : Splice) → p .at ≡ q .at → p .inside ≡ q .inside → p .from ≡ q .from → p .to ≡ q .to → p .count ≡ q .count
+    → p .renumbering ≡ q .renumbering → p ≡ q
+same-spot p q a b c d e f = λ i. record { at = a i; inside = b i; from = c i; to = d i; count = e i; renumbering = f i }
 
 -- ---- where they stand
 
@@ -108,6 +114,10 @@ module _ (v : Value) (valid : Valid v) (node : ℕ) (site : Site) (way : WayTo v
 
   pub few : count qs ≤ numberLimit
   few = site-valid v node site valid way .most
+
+  -- a plan has fewer pairs than bytes
+  pub one-more : count qs + 1 ≤ numberLimit
+  one-more = omega (arith, count-most qs, site-inside v node site way, write-longer v [], valid .short)
 
   module _ (s : List ℕ) (p : s ≡ print v) where
     abbrev pub ahead : Ahead s 0 node
@@ -187,8 +197,8 @@ module _ (v : Value) (valid : Valid v) (node : ℕ) (site : Site) (way : WayTo v
     before-gap = before-place place from-gap refl
 
     module _ (k : Key) (y : Scalar) where
-      abbrev spot : Spot
-      spot = spotOf place (record { plan = v; site = site; key = k; value = y })
+      abbrev spot : Splice
+      spot = spliceOf place (record { plan = v; site = site; key = k; value = y })
 
       pub tag-here : drop (spot .at) s ≡ from-head
       tag-here = behind to-head from-head before-head
@@ -196,42 +206,47 @@ module _ (v : Value) (valid : Valid v) (node : ℕ) (site : Site) (way : WayTo v
       pub pairs-here : drop (spot .inside) s ≡ from-pairs
       pairs-here = behind to-pairs from-pairs before-pairs
 
-      pub gap-here : drop (spot .gap) s ≡ from-gap
+      pub gap-here : drop (spot .from) s ≡ from-gap
       gap-here = behind to-gap from-gap before-gap
 
-      abbrev pub inserts : Inserts s spot
-      inserts = record {
-        front = record {
-          tokens = st .front;
-          fit = fit-front (st .front) _ all-fit;
-          text = p ∙ printed ∙ ap (writeTokens (st .front)) (sym tag-here);
-          inside = no-further to-head from-head before-head;
-        };
+      abbrev pub splices : Splices s spot
+      splices = record {
         head = record { spelling = st .head .spelling; pairs = count qs; few = few; rest = from-pairs; text = tag-here };
         behind = sym pairs-here;
-        counted = refl;
         inside = no-further to-pairs from-pairs before-pairs;
-        middle = record {
-          tokens = tokensIn (upto place qs);
-          fit = fit-front (tokensIn (upto place qs)) (tokensIn (after place qs)) pairs-fit;
-          text = pairs-here ∙ ap (writeTokens (tokensIn (upto place qs))) (sym gap-here);
-          inside = no-further to-gap from-gap before-gap;
+        parted = record {
+          front = record {
+            tokens = st .front;
+            fit = fit-front (st .front) _ all-fit;
+            text = p ∙ printed ∙ ap (writeTokens (st .front)) (sym tag-here);
+            inside = no-further to-head from-head before-head;
+          };
+          middle = record {
+            tokens = tokensIn (upto place qs);
+            fit = fit-front (tokensIn (upto place qs)) (tokensIn (after place qs)) pairs-fit;
+            text = pairs-here ∙ ap (writeTokens (tokensIn (upto place qs))) (sym gap-here);
+            inside = no-further to-gap from-gap before-gap;
+          };
+          left = record { tokens = []; fit = tt; text = refl; inside = no-further to-gap from-gap before-gap };
+          back = record {
+            tokens = rest;
+            fit = rest-fit;
+            text = gap-here ∙ ap (writeTokens rest) (sym (drop-of-length-le s {i = length s} (omega arith)));
+            inside = omega arith;
+          };
         };
-        back = record {
-          tokens = rest;
-          fit = rest-fit;
-          text = gap-here ∙ ap (writeTokens rest) (sym (drop-of-length-le s {i = length s} (omega arith)));
-          inside = omega arith;
-        };
+        few = one-more;
+        up = omega arith;
+        down = omega arith;
       }
 
       -- what the code reached is that spot
-      module _ (x : Passed) (r : Reached s from-head (length (site .path)) x) (m o : ℕ) (z : Spot) (i : SpotIs s from-pairs from-gap (x .at) m o z) where
-        pub spot-is : m ≡ count qs → o ≡ newOrdinal (site .path) place v → z ≡ spot
+      module _ (x : Passed) (r : Reached s from-head (length (site .path)) x) (m o : ℕ) (z : Splice) (i : SpotIs s from-pairs from-gap (x .at) m o z) where
+        pub spot-is : m ≡ count qs + 1 → o ≡ newOrdinal (site .path) place v → z ≡ spot
         spot-is c n =
+            let gap : z .from ≡ length to-gap = index-is to-gap from-gap before-gap (i .gap .here) (i .gap .inside) in
             same-spot z spot (i .tag ∙ index-is to-head from-head before-head (r .here) (r .inside))
-            (index-is to-pairs from-pairs before-pairs (i .first .here) (i .first .inside))
-            (index-is to-gap from-gap before-gap (i .gap .here) (i .gap .inside)) (i .counted ∙ c) (i .taken ∙ n)
+            (index-is to-pairs from-pairs before-pairs (i .first .here) (i .first .inside)) gap (i .none ∙ gap) (i .counted ∙ c) (i .taken ∙ ap raising n)
 
 -- ---- the bytes with the pair in it
 
@@ -265,8 +280,8 @@ module _ (v : Value) (node : ℕ) (site : Site) (way : WayTo v node (site .path)
       ∙ ap (λ (l : List Token). opening (countShortest (tk .head)) (suc (count qs)) ∷ l)
       (map-append (raisedToken K) (tokensIn (upto place qs)) (scalar (keyScalar k) ∷ scalar x ∷ more)))
 
-  -- the same in bytes, by what the code knows: the ordinal, the count and the two texts
-  abbrev parts-with : (o m : ℕ) (key value : List ℕ) → List ℕ
+  -- the same in bytes, by what the code knows: how references move, the count and the two texts
+  abbrev parts-with : Renumbering → (m : ℕ) (key value : List ℕ) → List ℕ
   parts-with = pieces (tk .front) (tokensIn (upto place (site .pairs))) (tokensIn (after place (site .pairs)) ++ (closing ∷ tk .back))
 
   head-text : writeToken (opening (countShortest (tk .head)) (suc (count (site .pairs)))) []
@@ -275,7 +290,11 @@ module _ (v : Value) (node : ℕ) (site : Site) (way : WayTo v node (site .path)
       ap (λ (c : Container). writeContainer c (writeNumber shortest (suc (count (site .pairs))) (byte ":" ∷ byte "{" ∷ []))) (tk .is-array)
       ∙ ap (λ (n : ℕ). tag Kind.array ∷ byte ":" ∷ writeNumber shortest n (byte ":" ∷ byte "{" ∷ [])) (sym (add-one (count (site .pairs))))
 
-  parts-are : print (insert (site .path) place k x v) ≡ parts-with K (count (site .pairs)) (writeKey k []) (writeScalar x [])
+  -- its references renumbered
+  moved : (ts : List Token) → writeTokens (raise ts) [] ≡ changedText (Change.Renumber (raising K)) ts
+  moved ts = ap (λ (l : List Token). writeTokens l []) (sym (raised-tokens K ts))
+
+  parts-are : print (insert (site .path) place k x v) ≡ parts-with (raising K) (count (site .pairs) + 1) (writeKey k []) (writeScalar x [])
   parts-are =
       let qs : Values = site .pairs in
       let a : List Token = raise (tk .front) in
@@ -291,11 +310,14 @@ module _ (v : Value) (node : ℕ) (site : Site) (way : WayTo v node (site .path)
       (token-front o [] (writeTokens (b ++ (key ∷ scalar x ∷ c)) []) ∙ ap₂ _++_ head-text
       (tokens-append b (key ∷ scalar x ∷ c) [] ∙ tokens-front b behind ∙ ap (λ (l : List ℕ). writeTokens b [] ++ l)
       (token-front key [] (writeToken (scalar x) (writeTokens c [])) ∙ ap₂ _++_ (key-written k []) (token-front (scalar x) [] (writeTokens c [])))))
+      ∙ ap₂ _++_ (moved (tk .front))
+      (ap (λ (l : List ℕ). (tag Kind.array ∷ byte ":" ∷ writeNumber shortest (count qs + 1) (byte ":" ∷ byte "{" ∷ [])) ++ l)
+      (ap₂ _++_ (moved (tokensIn (upto place qs)))
+      (ap (λ (l : List ℕ). writeKey k [] ++ (writeScalar x [] ++ l)) (moved (tokensIn (after place qs) ++ (closing ∷ tk .back))))))
 
-  pub written-is : (o m : ℕ) (key value : List ℕ) → o ≡ K → m ≡ count (site .pairs) → key ≡ writeKey k [] → value ≡ writeScalar x []
-      → print (insert (site .path) place k x v) ≡ parts-with o m key value
-  written-is o m key value f g h i =
-      parts-are ∙ ap₂ (λ (a b : ℕ). parts-with a b (writeKey k []) (writeScalar x [])) (sym f) (sym g) ∙ ap₂ (parts-with o m) (sym h) (sym i)
+  pub written-is : (key value : List ℕ) → key ≡ writeKey k [] → value ≡ writeScalar x []
+      → print (insert (site .path) place k x v) ≡ parts-with (raising K) (count (site .pairs) + 1) key value
+  written-is key value h i = parts-are ∙ ap₂ (parts-with (raising K) (count (site .pairs) + 1)) (sym h) (sym i)
 
 -- ---- as the code meets them
 

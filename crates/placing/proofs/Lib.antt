@@ -5,7 +5,7 @@ pub mod PairParts
 pub mod Sites
 mod SiteWords
 mod StepLaws
-mod InsertedTexts
+mod SplicedTexts
 pub mod Gaps
 pub mod SpotLaws
 mod Locating

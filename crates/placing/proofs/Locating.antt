@@ -16,7 +16,7 @@ use Rattle.insertion.proofs.Steps.{reading, row-step}
 use Rattle.reader.specs.declared.Reading.{Reading}
 use Rattle.reader.specs.Promise.{readingAnswer, Reads}
 use Rattle.reader.proofs.Promised.{accepted, refusal}
-use Rattle.rewriting.specs.declared.inserted.Spot.{Spot}
+use Rattle.rewriting.specs.declared.splice.Splice.{Splice}
 use Rattle.placing.specs.declared.Placing.{Placing}
 use Rattle.placing.specs.Placing.{Given, FindsSpot}
 use Rattle.placing.specs.Locating.{placingAnswer, spotFor, tableLocated, Locates}
@@ -37,7 +37,7 @@ module _ {s t t′ : List ℕ} {reading : Reading} (r : Reads s t t′ reading) 
       let told : spotFor (termsOf t) s node place key value ≡ refused code at = unread s (termsOf t) node place key value u in
       record {
         answer = ap (λ (r : Refusal). refused (r .code) (r .at)) (h ∙ ap (λ (x : Reading). refusalOf (readingAnswer x)) e) ∙ sym told;
-        table = r .table ∙ after-refused (termsOf t) s t code at u ∙ ap (λ (a : Answer Spot). tableLocated (termsOf t) a s t) (sym told);
+        table = r .table ∙ after-refused (termsOf t) s t code at u ∙ ap (λ (a : Answer Splice). tableLocated (termsOf t) a s t) (sym told);
       }
 
   -- ---- a plan that was read
@@ -66,11 +66,11 @@ module _ {s t t′ : List ℕ} {reading : Reading} (r : Reads s t t′ reading) 
       answers = p ∙ ap (λ (c : Terms). spotFor c s node place key value) same-terms
 
       located : {t″ : List ℕ} → t″ ≡ tableLocated (termsOf t) (placingAnswer placing) s t → Locates s node place key value t t″ placing
-      located z = record { answer = answers; table = z ∙ ap (λ (a : Answer Spot). tableLocated (termsOf t) a s t) answers }
+      located z = record { answer = answers; table = z ∙ ap (λ (a : Answer Splice). tableLocated (termsOf t) a s t) answers }
 
       pub locates-refused : {code at : ℕ} {t″ : List ℕ} → placing ≡ Placing.Refused code at → t″ ≡ cleared t′ → Locates s node place key value t t″ placing
       locates-refused f z =
           located (z ∙ ap (λ (n : ℕ). replicate n 0) same-length ∙ ap (λ (x : Placing). tableLocated (termsOf t) (placingAnswer x) s t) (sym f))
 
-      pub locates-at : {spot : Spot} → placing ≡ Placing.At spot → Locates s node place key value t t′ placing
+      pub locates-at : {spot : Splice} → placing ≡ Placing.At spot → Locates s node place key value t t′ placing
       locates-at f = located (r .table ∙ ap (λ (x : Placing). tableLocated (termsOf t) (placingAnswer x) s t) (sym f))

@@ -16,7 +16,7 @@ use Rattle.format.specs.Limits.{depthLimit}
 use Rattle.format.specs.Answer.{Answer, ok, refused}
 use Rattle.format.specs.Table.{Node, width, wordAt, tagWord, flat, tableOf}
 use Rattle.format.specs.Shows.{nodeAt}
-use Rattle.format.specs.Reading.{termsOf, capacityOf}
+use Rattle.format.specs.Reading.{termsOf, termsOf, capacityOf}
 use Rattle.format.specs.Edit.{keys, upto, newOrdinal}
 use Rattle.format.specs.Writing.{Site, arrayAt}
 use Rattle.format.proofs.Results.{flat-length, tableOf-length}

@@ -1,7 +1,7 @@
 -- WHAT PLACING PROMISES. The other files here say what its private functions promise each other; nothing public rests on them.
 use mathlib.Core.Path.{_≡_}
 use mathlib.Core.List.{List, [], _∷_}
-use Prim.Native.Nat.{ℕ, zero, suc}
+use Prim.Native.Nat.{ℕ, zero, suc, _+_}
 use lib.ListN.{length}
 use Rattle.format.specs.Tree.{leaf, ref, branch, none, pair, TreePath, count}
 use Rattle.format.specs.Syntax.{Value, Values, writeKey, write, writePairs}
@@ -11,11 +11,12 @@ use Rattle.format.specs.Reading.{termsOf, cleared, tableAfter}
 use Rattle.format.specs.Edit.{upto, newOrdinal}
 use Rattle.format.specs.Writing.{Insertion, insertionOf}
 use Rattle.tokens.specs.Tokens.{opening, writeToken}
-use Rattle.rewriting.specs.declared.inserted.Spot.{Spot}
+use Rattle.rewriting.specs.declared.splice.Splice.{Splice}
+use Rattle.rewriting.specs.Rewriting.{raising}
 use Rattle.placing.specs.declared.Placing.{Placing}
 
 -- the paper's number and values for each case of the enum: where the pair goes; "A refusal returns its number and a position"
-abbrev pub placingAnswer : Placing → Answer Spot
+abbrev pub placingAnswer : Placing → Answer Splice
 placingAnswer (Placing.At p) = ok p
 placingAnswer (Placing.Refused code at) = refused code at
 
@@ -44,26 +45,27 @@ pairsBefore p (ref r) = []
 pairsBefore p (branch h ps) = writeToken (opening h (count ps)) (writePairs (upto p ps) [])
 
 -- "put in before the key that had that place, or before the array's `}` if the place is the count": the positions of the array's tag, of its first pair and
--- of the gap, each the length of what stands before; the array's count; and k
-abbrev pub spotOf : (place : ℕ) → Insertion → Spot
-spotOf p i = record {
+-- of the gap, where nothing is left out, each the length of what stands before; the array's new count; and references from k on one higher
+abbrev pub spliceOf : (place : ℕ) → Insertion → Splice
+spliceOf p i = record {
   at = length (before nothing (i .site .path) (i .plan));
   inside = length (before (pairsBefore 0) (i .site .path) (i .plan));
-  gap = length (before (pairsBefore p) (i .site .path) (i .plan));
-  count = count (i .site .pairs);
-  ordinal = newOrdinal (i .site .path) p (i .plan);
+  from = length (before (pairsBefore p) (i .site .path) (i .plan));
+  to = length (before (pairsBefore p) (i .site .path) (i .plan));
+  count = count (i .site .pairs) + 1;
+  renumbering = raising (newOrdinal (i .site .path) p (i .plan));
 }
 
 -- ---- the answer and the table
 
 -- "Inserting: reading, 11, 12, 13, 9 (new key present), 8 (array at depth 64), 7 (two more nodes), 14": all before 14
-unfoldable pub spotFor : (terms : Terms) → (source : List ℕ) → (node place : ℕ) → (key value : List ℕ) → Answer Spot
+unfoldable pub spotFor : (terms : Terms) → (source : List ℕ) → (node place : ℕ) → (key value : List ℕ) → Answer Splice
 spotFor terms source node place key value = do
   i ← insertionOf terms source node place key value
-  ok (spotOf place i)
+  ok (spliceOf place i)
 
 -- the table is that of the plan given; a refusal "makes every word of the table zero"
-abbrev pub tableLocated : Terms → Answer Spot → (source table : List ℕ) → List ℕ
+abbrev pub tableLocated : Terms → Answer Splice → (source table : List ℕ) → List ℕ
 tableLocated terms (ok p) source t = tableAfter terms source t
 tableLocated terms (refused n p) source t = cleared t
 

@@ -11,7 +11,8 @@ use Rattle.format.specs.Limits.{numberLimit}
 use Rattle.format.specs.Fits.{IsPlan}
 use Rattle.format.specs.Table.{flat, tableOf}
 use Rattle.format.specs.Reading.{termsOf}
-use Rattle.rewriting.specs.declared.inserted.Spot.{Spot}
+use Rattle.rewriting.specs.declared.splice.Splice.{Splice}
+use Rattle.rewriting.specs.Rewriting.{raising}
 use Rattle.placing.specs.declared.Placing.{Placing}
 use Rattle.placing.specs.Passing.{Ahead}
 use Rattle.placing.specs.Locating.{placingAnswer, spotFor}
@@ -46,12 +47,13 @@ pub record SpotAhead (s : List ℕ) (at nodes : ℕ) : Type 0 where
   pub pairs : (i : ℕ) → drop i s ≡ head .rest → i ≤ length s → Ahead s i nodes
   pub same : (i : ℕ) (e : drop i s ≡ head .rest) (h : i ≤ length s) → pairs i e h .rest ≡ rest
 
-pub record SpotIs (s head rest : List ℕ) (at count ordinal : ℕ) (r : Spot) : Type 0 where
+pub record SpotIs (s head rest : List ℕ) (at count ordinal : ℕ) (r : Splice) : Type 0 where
   pub tag : r .at ≡ at
   pub first : BehindHead s head (r .inside)
-  pub gap : BehindHead s rest (r .gap)
+  pub gap : BehindHead s rest (r .from)
+  pub none : r .to ≡ r .from
   pub counted : r .count ≡ count
-  pub taken : r .ordinal ≡ ordinal
+  pub taken : r .renumbering ≡ raising ordinal
 
 -- ---- the steps between reading and writing
 

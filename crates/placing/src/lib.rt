@@ -5,7 +5,7 @@
 use crate::spot::find_spot;
 use format::codes::Refusal;
 use reader::Reading;
-use rewriting::inserted::Spot;
+use rewriting::splice::Splice;
 ghost use mathlib.Core.Path.{_≡_};
 ghost use Rattle.format.specs.Answer.{refusalOf};
 ghost use Rattle.reader.specs.Promise.{readingAnswer};
@@ -17,9 +17,9 @@ mod steps;
 mod target;
 mod texts;
 
-// Where the pair goes, or a refusal's number and position.
+// Where the pair goes, a splice that leaves nothing out; or a refusal's number and position.
 pub enum Placing {
-    At(Spot),
+    At(Splice),
     Refused { code: u8, at: usize },
 }
 

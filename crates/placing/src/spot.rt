@@ -18,7 +18,8 @@ use format::codes::PAIR_UNFIT;
 use format::codes::TABLE_FULL;
 use format::codes::TOO_DEEP;
 use format::table::WIDTH;
-use rewriting::inserted::Spot;
+use rewriting::splice::Renumbering;
+use rewriting::splice::Splice;
 use scanner::Scan;
 use tokens::token;
 ghost use Rattle.placing.specs.Placing.{Given, FindsSpot, HeadAhead, BehindHead, SpotAhead, SpotIs};
@@ -36,19 +37,26 @@ fn behind_head(source: &[u8], at: usize) -> usize
     text.next
 }
 
-// The gap behind so many nodes of the array whose tag stands at an index.
-fn spot_at(source: &[u8], at: usize, nodes: usize, count: u64, ordinal: u64) -> Spot
+// The gap behind so many nodes of the array whose tag stands at an index: nothing is left out there, and references from an ordinal on rise by one.
+fn spot_at(source: &[u8], at: usize, nodes: usize, count: u64, ordinal: u64) -> Splice
     requires { ⌜ SpotAhead (now source) at nodes ⌝ }
     ensures { λ r. ⌜ ((a : SpotAhead (now (source .entry)) at nodes) → SpotIs (now (source .entry)) (a .head .rest) (a .rest) at count ordinal r) ⌝ }
 {
     let inside = behind_head(source, at);
     let reached = pass(source, inside, nodes);
-    Spot {
+    let gap = reached.at;
+    let renumbering = Renumbering {
+        from: ordinal,
+        down: 0,
+        up: 1,
+    };
+    Splice {
         at,
         inside,
-        gap: reached.at,
+        from: gap,
+        to: gap,
         count,
-        ordinal,
+        renumbering,
     }
 }
 
@@ -109,5 +117,5 @@ pub(crate) fn find_spot(
             at: 0,
         };
     };
-    Placing::At(spot_at(source, reached.at, node - first, count, new))
+    Placing::At(spot_at(source, reached.at, node - first, count + 1, new))
 }

@@ -14,12 +14,15 @@ use Rattle.format.specs.Answer.{Answer, ok, refused, _>>=_, require}
 use Rattle.format.proofs.Answers.{ok-same, not-both}
 use Rattle.rewriting.specs.declared.Edit.{Edit}
 use Rattle.rewriting.specs.declared.Edited.{Edited}
-use Rattle.rewriting.specs.declared.inserted.Spot.{Spot}
+use Rattle.rewriting.specs.declared.rewrite.Change.{Change}
+use Rattle.rewriting.specs.declared.splice.Renumbering.{Renumbering}
+use Rattle.rewriting.specs.declared.splice.Splice.{Splice}
 use Rattle.rewriting.specs.Output.{Within, Puts}
-use Rattle.rewriting.specs.Edited.{canonicalText, insertedText, editedText, stands, spotInside, writable, editedAnswer, editedBytes}
-use Rattle.rewriting.specs.Edited.{lengthEdited, outputEdited, Edits, Insertable, Parted}
+use Rattle.rewriting.specs.Rewriting.{Sound}
+use Rattle.rewriting.specs.Edited.{canonicalText, splicedText, editedText, stands, editStands, writable, editedAnswer, editedBytes}
+use Rattle.rewriting.specs.Edited.{lengthEdited, outputEdited, Edits, Spliceable, Parted}
 use Rattle.rewriting.proofs.Outputs.{puts-as}
-use Rattle.rewriting.proofs.Measures.{insertable, parted-most, canonical-text-most, canonical-within}
+use Rattle.rewriting.proofs.Measures.{spliceable, parted-most, canonical-text-most, canonical-within}
 
 -- ---- the tests, one after another
 
@@ -35,14 +38,14 @@ module _ (n : ℕ) (e : Edit) (key value : ℕ) where
       pub value-long : sourceLimit + 1 ≤ value → writable n e key value ≡ false
       value-long j = rw (le-leb n sourceLimit h, le-leb key sourceLimit i, lt-leb value sourceLimit (omega arith))
 
-      pub by-spot : value ≤ sourceLimit → writable n e key value ≡ spotInside n e
-      by-spot j = rw (le-leb n sourceLimit h, le-leb key sourceLimit i, le-leb value sourceLimit j)
+      pub by-stands : value ≤ sourceLimit → writable n e key value ≡ editStands n e
+      by-stands j = rw (le-leb n sourceLimit h, le-leb key sourceLimit i, le-leb value sourceLimit j)
 
-  pub inside-canonical : e ≡ Edit.Canonical → spotInside n e ≡ true
-  inside-canonical i = ap (spotInside n) i
+  pub inside-canonical : e ≡ Edit.Canonical → editStands n e ≡ true
+  inside-canonical i = ap (editStands n) i
 
-  pub inside-insert : {p : Spot} → e ≡ Edit.Insert p → spotInside n e ≡ stands n p
-  inside-insert i = ap (spotInside n) i
+  pub inside-splice : {p : Splice} → e ≡ Edit.Splice p → editStands n e ≡ stands n p
+  inside-splice i = ap (editStands n) i
 
 -- ---- what they say
 
@@ -50,21 +53,21 @@ record Sizes (n : ℕ) (e : Edit) (k v : ℕ) : Type 0 where
   source : n ≤ sourceLimit
   key : k ≤ sourceLimit
   value : v ≤ sourceLimit
-  standing : spotInside n e ≡ true
+  standing : editStands n e ≡ true
 
 sizes : (n : ℕ) (e : Edit) (key value : ℕ) → writable n e key value ≡ true → Sizes n e key value
 sizes n e key value w =
-    let b : Bool = leb key sourceLimit && (leb value sourceLimit && spotInside n e) in
-    let c : Bool = leb value sourceLimit && spotInside n e in
+    let b : Bool = leb key sourceLimit && (leb value sourceLimit && editStands n e) in
+    let c : Bool = leb value sourceLimit && editStands n e in
     record {
       source = leb→le n sourceLimit (and-left (leb n sourceLimit) b (T-of w));
       key = leb→le key sourceLimit (and-left (leb key sourceLimit) c (and-right (leb n sourceLimit) b (T-of w)));
       value =
           leb→le value sourceLimit
-          (and-left (leb value sourceLimit) (spotInside n e) (and-right (leb key sourceLimit) c (and-right (leb n sourceLimit) b (T-of w))));
+          (and-left (leb value sourceLimit) (editStands n e) (and-right (leb key sourceLimit) c (and-right (leb n sourceLimit) b (T-of w))));
       standing =
-          T-true (spotInside n e)
-          (and-right (leb value sourceLimit) (spotInside n e) (and-right (leb key sourceLimit) c (and-right (leb n sourceLimit) b (T-of w))));
+          T-true (editStands n e)
+          (and-right (leb value sourceLimit) (editStands n e) (and-right (leb key sourceLimit) c (and-right (leb n sourceLimit) b (T-of w))));
     }
 
 -- ---- what is written
@@ -82,13 +85,16 @@ leaves-unfit s e key value {out} f =
     record { answer = sym (ap lengthEdited bytes); output = sym (ap (λ (a : Answer (List ℕ)). outputEdited a out) bytes) }
 
 module _ (s : List ℕ) (e : Edit) (key value : List ℕ) (f : writable (length s) e (length key) (length value) ≡ true) where
-  pub canonical-room : Within (canonicalText s) 0
-  canonical-room = canonical-within s (sizes (length s) e (length key) (length value) f .source)
+  pub canonical-room : Sound Change.Canonical × Within (canonicalText s) 0
+  canonical-room = (record { numbers = λ m i. absurd (never i) }, canonical-within s (sizes (length s) e (length key) (length value) f .source))
+    where
+      never : {m : Renumbering} → Change.Canonical ≡ Change.Renumber m → ⊥
+      never i = let z : _≡_ {A = ℕ} 0 1 = cc in omega arith
 
-  pub insert-room : {p : Spot} → e ≡ Edit.Insert p → Insertable s key value p
-  insert-room {p} i =
+  pub splice-room : {p : Splice} → e ≡ Edit.Splice p → Spliceable s key value p
+  splice-room {p} i =
       let z = sizes (length s) e (length key) (length value) f in
-      insertable s key value p (sym (inside-insert (length s) e (length key) (length value) i) ∙ z .standing) (z .source) (z .key) (z .value)
+      spliceable s key value p (sym (inside-splice (length s) e (length key) (length value) i) ∙ z .standing) (z .source) (z .key) (z .value)
 
   pub puts-edited : {t out out′ : List ℕ} {n : ℕ} → editedText s e key value ≡ t → Puts t 0 out n out′ → Edits s e key value out out′ (Edited.Written n)
   unfolding editedAnswer
@@ -103,17 +109,18 @@ module _ (s : List ℕ) (e : Edit) (key value : List ℕ) (f : writable (length 
 pub as-canonical : {e : Edit} (s key value : List ℕ) → e ≡ Edit.Canonical → editedText s e key value ≡ canonicalText s
 as-canonical s key value i = ap (λ (d : Edit). editedText s d key value) i
 
-pub as-insert : {e : Edit} {p : Spot} (s key value : List ℕ) → e ≡ Edit.Insert p → editedText s e key value ≡ insertedText s key value p
-as-insert s key value i = ap (λ (d : Edit). editedText s d key value) i
+pub as-splice : {e : Edit} {p : Splice} (s key value : List ℕ) → e ≡ Edit.Splice p → editedText s e key value ≡ splicedText s key value p
+as-splice s key value i = ap (λ (d : Edit). editedText s d key value) i
 
 -- ---- for those who edit
 
--- how long it is at most, in a place between tokens
+-- how long it is at most, between tokens, where no reference rises by more than one
 pub edited-most : (s : List ℕ) (e : Edit) (key value : List ℕ) → writable (length s) e (length key) (length value) ≡ true
-    → ((p : Spot) → e ≡ Edit.Insert p → Parted s p)
+    → ((p : Splice) → e ≡ Edit.Splice p → Parted s p × (p .renumbering .up ≤ 1))
     → 4 * length (editedText s e key value) ≤ 5 * length s + 4 * length key + 4 * length value + 36
 edited-most s Edit.Canonical key value f g = omega (arith, canonical-text-most s)
-edited-most s (Edit.Insert p) key value f g = parted-most s key value p (sizes (length s) (Edit.Insert p) (length key) (length value) f .standing) (g p refl)
+edited-most s (Edit.Splice p) key value f g =
+    parted-most s key value p (sizes (length s) (Edit.Splice p) (length key) (length value) f .standing) (g p refl .0) (g p refl .1)
 
 pub record Put (s : List ℕ) (e : Edit) (key value out out′ : List ℕ) (n : ℕ) : Type 0 where
   pub fit : writable (length s) e (length key) (length value) ≡ true

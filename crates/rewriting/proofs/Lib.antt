@@ -1,9 +1,10 @@
 mod Outputs
 mod Spelled
 pub mod Respelled
+pub mod Raised
 mod Staying
 mod PlainTokens
 mod Rewritten
-mod InsertedTexts
+mod SplicedTexts
 pub mod Measures
 pub mod Editable

@@ -1,8 +1,9 @@
 -- How long an edited text can be: no index overflows. Assumes nothing.
-use Prim.Native.Nat.{ℕ, suc, _+_, _-_, _*_, _/_, _%_, _≤_}
+use Prim.Native.Nat.{ℕ, suc, _+_, _-_, _*_, _/_, _%_, _≤_, _<_}
 use native.Mathlib.Omega.{arith}
-use mathlib.Core.Path.{_≡_, ap, _∙_}
-use mathlib.Core.Bool.{true}
+use mathlib.Core.Path.{_≡_, refl, ap, _∙_}
+use mathlib.Core.Logic.{_⊎_, inl, inr, ⊎-elim}
+use mathlib.Core.Bool.{Bool, true, false}
 use mathlib.Core.List.{List, [], _∷_, _++_}
 use lib.ListN.{length, drop, length-append, length-drop}
 use lib.Seq.{slice, length-slice}
@@ -14,23 +15,20 @@ use Rattle.format.specs.Limits.{numberLimit, sourceLimit}
 use Rattle.format.specs.Canonical.{shortest}
 use Rattle.format.proofs.Fronts.{number-length}
 use Rattle.format.proofs.NormalForm.{number-shorter, scalar-shorter, container-shorter}
-use Rattle.insertion.proofs.Meanings.{raised-low, raised-high}
-use Rattle.tokens.specs.Tokens.{Token, scalar, reference, opening, closing, writeToken, writeTokens, canonicalToken, raisedToken}
+use Rattle.tokens.specs.Tokens.{Token, scalar, reference, opening, closing, writeToken, writeTokens, canonicalToken, TokenFits, AllFit}
 use Rattle.tokens.specs.Between.{tokensBetween, Stretch}
 use Rattle.tokens.proofs.TokenLaws.{token-front, tokens-front}
 use Rattle.tokens.proofs.Stretches.{Prefix, between-prefix, between-stretch}
 use Rattle.rewriting.specs.declared.rewrite.Change.{Change}
-use Rattle.rewriting.specs.declared.inserted.Spot.{Spot}
+use Rattle.rewriting.specs.declared.splice.Renumbering.{Renumbering}
+use Rattle.rewriting.specs.declared.splice.Splice.{Splice}
 use Rattle.rewriting.specs.Output.{Within}
-use Rattle.rewriting.specs.Rewriting.{changedToken, changedText, rewrittenText}
-use Rattle.rewriting.specs.Edited.{canonicalText, grownHead, insertedText, stands, Insertable, Parted}
-use Rattle.rewriting.proofs.InsertedTexts.{HeadRoom, head-of}
+use Rattle.rewriting.specs.Rewriting.{isRenumbered, newNumber, renumberedToken, changedToken, changedText, rewrittenText}
+use Rattle.rewriting.specs.Edited.{canonicalText, splicedHead, splicedText, stands, Spliceable, Parted}
+use Rattle.rewriting.proofs.Respelled.{renumbered-by}
+use Rattle.rewriting.proofs.SplicedTexts.{Room, room-of}
 
 -- ---- one token
-
--- a *number* and the next one have at most five digits
-five : (n : ℕ) → n ≤ numberLimit + 1 → length (decimal n) ≤ 5
-five n h = decimal-length 4 n (omega (arith, h))
 
 -- the next number has at most one digit more
 one-more : (n : ℕ) → length (decimal (suc n)) ≤ length (decimal n) + 1
@@ -55,19 +53,22 @@ one-more = by-tens (λ n. length (decimal (suc n)) ≤ length (decimal n) + 1)
         by (below l) = let e : suc n / 10 ≡ n / 10 = omega arith in omega (arith, ap (λ (k : ℕ). length (decimal k)) e)
         by (above l) = let e : suc n / 10 ≡ suc (n / 10) = omega arith in omega (arith, ih, ap (λ (k : ℕ). length (decimal k)) e)
 
--- a reference has four bytes or more, and grows by one at the most
-raised-most : (k : ℕ) (r : Reference) → 4 * length (writeToken (raisedToken k (reference r)) []) ≤ 5 * length (writeToken (reference r) [])
-raised-most k r = by (order (r .named) k)
+-- a lower number has no more digits
+pub fewer : (m n : ℕ) → m ≤ n → length (decimal m) ≤ length (decimal n)
+fewer m n = by-tens (λ (n : ℕ). (m : ℕ) → m ≤ n → length (decimal m) ≤ length (decimal n))
+    (λ n h m i. omega (arith, decimal-length 0 m (omega arith), decimal-some n))
+    (λ n h ih m i. tens n h ih m i (order m 10)) n m
   where
-    by : Order (r .named) k → 4 * length (writeToken (raisedToken k (reference r)) []) ≤ 5 * length (writeToken (reference r) [])
-    by (below h) = omega (arith, ap (λ (q : Reference). length (writeToken (reference q) [])) (raised-low k r h))
-    by (above h) = omega (
+    tens : (n : ℕ) → 10 ≤ n → ((m : ℕ) → m ≤ n / 10 → length (decimal m) ≤ length (decimal (n / 10))) → (m : ℕ) → m ≤ n → Order m 10
+        → length (decimal m) ≤ length (decimal n)
+    tens n h ih m i (below l) = omega (arith, decimal-length 0 m (omega arith), decimal-some n)
+    tens n h ih m i (above l) = omega (
       arith,
-      ap (λ (q : Reference). length (writeToken (reference q) [])) (raised-high k r h),
-      number-length shortest (suc (r .named)) (59 ∷ []),
-      number-length (r .spelling) (r .named) (59 ∷ []),
-      one-more (r .named),
-      decimal-some (r .named),
+      ih (m / 10) (omega arith),
+      ap length (decimal-large n h),
+      length-append (decimal (n / 10)) ((48 + n % 10) ∷ []),
+      ap length (decimal-large m l),
+      length-append (decimal (m / 10)) ((48 + m % 10) ∷ []),
     )
 
 canonical-most : (t : Token) → length (writeToken (canonicalToken t) []) ≤ length (writeToken t [])
@@ -76,51 +77,63 @@ canonical-most (reference r) = omega (arith, number-shorter (r .spelling) (r .na
 canonical-most (opening h n) = container-shorter (h .container) _ _ (number-shorter (h .spelling) n (58 ∷ 123 ∷ []) (58 ∷ 123 ∷ []) (omega arith))
 canonical-most closing = omega arith
 
--- four times what so many bytes of tokens become at the most
-quarters : Change → (bytes : ℕ) → ℕ
-quarters Change.Canonical n = 4 * n
-quarters (Change.Raise k) n = 5 * n
+-- four times what a token that fits becomes at the most, by its bytes
+record Grows (c : Change) (most : ℕ → ℕ) : Type 0 where
+  adds : (m n : ℕ) → most (m + n) ≡ most m + most n
+  token : (t : Token) → TokenFits t → 4 * length (writeToken (changedToken c t) []) ≤ most (length (writeToken t []))
 
-quarters-add : (c : Change) (m n : ℕ) → quarters c (m + n) ≡ quarters c m + quarters c n
-unfolding quarters
-quarters-add Change.Canonical m n = omega arith
-quarters-add (Change.Raise k) m n = omega arith
+shrinks : Grows Change.Canonical (λ n. 4 * n)
+shrinks = record { adds = λ m n. omega arith; token = λ t f. omega (arith, canonical-most t) }
 
-token-most : (c : Change) (t : Token) → 4 * length (writeToken (changedToken c t) []) ≤ quarters c (length (writeToken t []))
-unfolding quarters
-token-most Change.Canonical t = omega (arith, canonical-most t)
-token-most (Change.Raise k) (scalar x) = omega arith
-token-most (Change.Raise k) (reference r) = raised-most k r
-token-most (Change.Raise k) (opening h n) = omega arith
-token-most (Change.Raise k) closing = omega arith
+-- a reference's tag, its colon, its number and its semicolon
+reference-length : (r : Reference) → 3 + length (decimal (r .named)) ≤ length (writeToken (reference r) [])
+reference-length r = omega (arith, number-length (r .spelling) (r .named) (59 ∷ []))
+
+-- it stays, or has its new number in shortest form
+renumbered-length : (m : Renumbering) (r : Reference) → (length (writeToken (renumberedToken m (reference r)) []) ≡ length (writeToken (reference r) []))
+    ⊎ (length (writeToken (renumberedToken m (reference r)) []) ≡ 3 + length (decimal (newNumber m (r .named))))
+renumbered-length m r = by (isRenumbered m (r .named)) refl
+  where
+    by : (b : Bool) → isRenumbered m (r .named) ≡ b → (length (writeToken (renumberedToken m (reference r)) []) ≡ length (writeToken (reference r) []))
+        ⊎ (length (writeToken (renumberedToken m (reference r)) []) ≡ 3 + length (decimal (newNumber m (r .named))))
+    by false e = inl (ap (λ (q : Reference). length (writeToken (reference q) [])) (renumbered-by m r false e))
+    by true e =
+        inr (omega (
+          arith,
+          ap (λ (q : Reference). length (writeToken (reference q) [])) (renumbered-by m r true e),
+          number-length shortest (newNumber m (r .named)) (59 ∷ []),
+        ))
+
+-- a reference has four bytes or more, and grows by one at the most where its number does
+grows-by-one : (m : Renumbering) → m .up ≤ 1 → Grows (Change.Renumber m) (λ n. 5 * n)
+grows-by-one m h = record { adds = λ a b. omega arith; token = token }
+  where
+    token : (t : Token) → TokenFits t → 4 * length (writeToken (renumberedToken m t) []) ≤ 5 * length (writeToken t [])
+    token (scalar x) f = omega arith
+    token (reference r) f =
+        let n : ℕ = r .named in
+        let some : 0 < length (decimal n) = decimal-some n in
+        let higher : length (decimal (newNumber m n)) ≤ length (decimal n) + 1 =
+        omega (arith, fewer (newNumber m n) (suc n) (omega (arith, h)), one-more n) in
+        ⊎-elim (λ e. omega (arith, e)) (λ e. omega (arith, e, reference-length r, higher, some)) (renumbered-length m r)
+    token (opening k n) f = omega arith
+    token closing f = omega arith
+
+-- and to nine bytes whatever its number becomes
+grows-to-nine : (m : Renumbering) → m .up ≤ numberLimit → Grows (Change.Renumber m) (λ n. 9 * n)
+grows-to-nine m h = record { adds = λ a b. omega arith; token = token }
+  where
+    token : (t : Token) → TokenFits t → 4 * length (writeToken (renumberedToken m t) []) ≤ 9 * length (writeToken t [])
+    token (scalar x) f = omega arith
+    token (reference r) f =
+        let n : ℕ = r .named in
+        let some : 0 < length (decimal n) = decimal-some n in
+        let six : length (decimal (newNumber m n)) ≤ 6 = decimal-length 5 (newNumber m n) (omega (arith, h, f)) in
+        ⊎-elim (λ e. omega (arith, e)) (λ e. omega (arith, e, reference-length r, six, some)) (renumbered-length m r)
+    token (opening k n) f = omega arith
+    token closing f = omega arith
 
 -- ---- tokens
-
-tokens-most : (c : Change) (ts : List Token) → 4 * length (changedText c ts) ≤ quarters c (length (writeTokens ts []))
-tokens-most c [] = omega arith
-tokens-most c (t ∷ ts) =
-    let old : ℕ = length (writeToken t []) in
-    let olds : ℕ = length (writeTokens ts []) in
-    omega (
-      arith,
-      tokens-most c ts,
-      token-most c t,
-      ap (quarters c) (ap length (token-front t [] (writeTokens ts [])) ∙ length-append (writeToken t []) (writeTokens ts [])),
-      quarters-add c old olds,
-      ap length (token-front (changedToken c t) [] (changedText c ts)),
-      length-append (writeToken (changedToken c t) []) (changedText c ts),
-    )
-
--- what stands between two indices, whatever it is
-between-most : (s : List ℕ) (from to : ℕ) → length (writeTokens (tokensBetween s from to) []) ≤ length s
-between-most s from to =
-    let g : Prefix (drop from s) (tokensBetween s from to) = between-prefix s from to in
-    let ts : List Token = tokensBetween s from to in
-    omega (arith, ap length (g .text ∙ tokens-front ts (g .rest)), length-append (writeTokens ts []) (g .rest), length-drop from s)
-
-raised-between : (k : ℕ) (s : List ℕ) (from to : ℕ) → 4 * length (rewrittenText (Change.Raise k) s from to) ≤ 5 * length s
-unfolding quarters
-raised-between k s from to = omega (arith, tokens-most (Change.Raise k) (tokensBetween s from to), between-most s from to)
 
 stretch-length : {s : List ℕ} {from to : ℕ} (g : Stretch s from to) → length s - from ≡ length (writeTokens (g .tokens) []) + (length s - to)
 stretch-length {s} {from} {to} g = omega (
@@ -131,99 +144,129 @@ stretch-length {s} {from} {to} g = omega (
   length-drop to s,
 )
 
--- a stretch has as many bytes as it takes
-raised-stretch : (k : ℕ) {s : List ℕ} {from to : ℕ} → Stretch s from to → 4 * length (rewrittenText (Change.Raise k) s from to) ≤ 5 * (to - from)
-unfolding quarters
-raised-stretch k {s} {from} {to} g = omega (
-  arith,
-  tokens-most (Change.Raise k) (tokensBetween s from to),
-  ap (λ (ts : List Token). length (writeTokens ts [])) (between-stretch g),
-  stretch-length g,
-  g .inside,
-)
+module _ {c : Change} {most : ℕ → ℕ} (g : Grows c most) where
+  tokens-most : (ts : List Token) → AllFit ts → 4 * length (changedText c ts) ≤ most (length (writeTokens ts []))
+  tokens-most [] f = omega arith
+  tokens-most (t ∷ ts) f =
+      let old : ℕ = length (writeToken t []) in
+      let olds : ℕ = length (writeTokens ts []) in
+      omega (
+        arith,
+        tokens-most ts (f .1),
+        g .token t (f .0),
+        ap most (ap length (token-front t [] (writeTokens ts [])) ∙ length-append (writeToken t []) (writeTokens ts [])),
+        g .adds old olds,
+        ap length (token-front (changedToken c t) [] (changedText c ts)),
+        length-append (writeToken (changedToken c t) []) (changedText c ts),
+      )
+
+  -- what stands between two indices, whatever it is
+  between-most : (s : List ℕ) (from to : ℕ) → 4 * length (rewrittenText c s from to) ≤ most (length (writeTokens (tokensBetween s from to) []))
+  between-most s from to = tokens-most (tokensBetween s from to) (between-prefix s from to .fit)
+
+  -- a stretch has as many bytes as it takes
+  stretch-most : {s : List ℕ} {from to : ℕ} → Stretch s from to → 4 * length (rewrittenText c s from to) ≤ most (to - from)
+  stretch-most {s} {from} {to} a =
+      let size : length (writeTokens (tokensBetween s from to) []) ≡ to - from =
+      omega (arith, ap (λ (ts : List Token). length (writeTokens ts [])) (between-stretch a), stretch-length a, a .inside) in
+      omega (arith, between-most s from to, ap most size)
+
+between-length : (s : List ℕ) (from to : ℕ) → length (writeTokens (tokensBetween s from to) []) ≤ length s
+between-length s from to =
+    let g : Prefix (drop from s) (tokensBetween s from to) = between-prefix s from to in
+    let ts : List Token = tokensBetween s from to in
+    omega (arith, ap length (g .text ∙ tokens-front ts (g .rest)), length-append (writeTokens ts []) (g .rest), length-drop from s)
 
 -- ---- an edit
 
-module _ (s key value : List ℕ) (p : Spot) where
-  abbrev c : Change
-  c = Change.Raise (p .ordinal)
+module _ (s key value : List ℕ) (p : Splice) where
+  abbrev m : Renumbering
+  m = p .renumbering
 
   abbrev front : List ℕ
-  front = rewrittenText c s 0 (p .at)
+  front = rewrittenText (Change.Renumber m) s 0 (p .at)
 
   abbrev middle : List ℕ
-  middle = rewrittenText c s (p .inside) (p .gap)
+  middle = rewrittenText (Change.Renumber m) s (p .inside) (p .from)
 
   abbrev back : List ℕ
-  back = rewrittenText c s (p .gap) (length s)
+  back = rewrittenText (Change.Renumber m) s (p .to) (length s)
 
-  inserted-length : length (insertedText s key value p) ≡ length front + length (grownHead s p) + length middle + length key + length value + length back
-  inserted-length = omega (
+  spliced-length : length (splicedText s key value p) ≡ length front + length (splicedHead s p) + length middle + length key + length value + length back
+  spliced-length = omega (
     arith,
-    length-append front (grownHead s p ++ (middle ++ (key ++ (value ++ back)))),
-    length-append (grownHead s p) (middle ++ (key ++ (value ++ back))),
+    length-append front (splicedHead s p ++ (middle ++ (key ++ (value ++ back)))),
+    length-append (splicedHead s p) (middle ++ (key ++ (value ++ back))),
     length-append middle (key ++ (value ++ back)),
     length-append key (value ++ back),
     length-append value back,
   )
 
   -- the texts are part of it
-  pub texts-inside : (length key ≤ length (insertedText s key value p)) × (length value ≤ length (insertedText s key value p))
-  texts-inside = (omega (arith, inserted-length), omega (arith, inserted-length))
+  pub texts-inside : (length key ≤ length (splicedText s key value p)) × (length value ≤ length (splicedText s key value p))
+  texts-inside = (omega (arith, spliced-length), omega (arith, spliced-length))
 
   module _ (e : stands (length s) p ≡ true) where
-    head-most : length (grownHead s p) ≤ 9
+    abbrev room : Room (length s) p
+    room = room-of (length s) p e
+
+    head-most : length (splicedHead s p) ≤ 9
     head-most =
-        let h : HeadRoom (length s) p = head-of (length s) p e in
         omega (
           arith,
-          h .some,
-          h .long,
-          five (p .count + 1) (omega (arith, h .low)),
-          length-append (slice (p .at) (p .at + 2) s) (decimal (p .count + 1) ++ slice (p .inside - 2) (p .inside) s),
-          length-append (decimal (p .count + 1)) (slice (p .inside - 2) (p .inside) s),
-          length-slice (p .at) (p .at + 2) s (omega (arith, h .some, h .long, h .inside)),
-          length-slice (p .inside - 2) (p .inside) s (h .inside),
+          room .some,
+          room .long,
+          decimal-length 4 (p .count) (omega (arith, room .low)),
+          length-append (slice (p .at) (p .at + 2) s) (decimal (p .count) ++ slice (p .inside - 2) (p .inside) s),
+          length-append (decimal (p .count)) (slice (p .inside - 2) (p .inside) s),
+          length-slice (p .at) (p .at + 2) s (omega (arith, room .some, room .long, room .inside)),
+          length-slice (p .inside - 2) (p .inside) s (room .inside),
         )
 
-    -- whatever the place
-    inserted-most : 4 * length (insertedText s key value p) ≤ 15 * length s + 4 * length key + 4 * length value + 36
-    inserted-most = omega (
-      arith,
-      inserted-length,
-      head-most,
-      raised-between (p .ordinal) s 0 (p .at),
-      raised-between (p .ordinal) s (p .inside) (p .gap),
-      raised-between (p .ordinal) s (p .gap) (length s),
-    )
-
-    pub insertable : length s ≤ sourceLimit → length key ≤ sourceLimit → length value ≤ sourceLimit → Insertable s key value p
-    insertable h i j = record {
-      head = e;
-      within = record { low = omega (arith, inserted-most) };
-    }
-
-    -- around an array's head and a gap between tokens
-    pub parted-most : Parted s p → 4 * length (insertedText s key value p) ≤ 5 * length s + 4 * length key + 4 * length value + 36
-    parted-most g =
-        let h : HeadRoom (length s) p = head-of (length s) p e in
+    -- whatever the indices
+    spliced-most : 4 * length (splicedText s key value p) ≤ 27 * length s + 4 * length key + 4 * length value + 36
+    spliced-most =
+        let grows = grows-to-nine m (room .up) in
         omega (
           arith,
-          inserted-length,
+          spliced-length,
           head-most,
-          raised-stretch (p .ordinal) (g .front),
-          raised-stretch (p .ordinal) (g .middle),
-          raised-stretch (p .ordinal) (g .back),
-          h .long,
-          h .inside,
+          between-most grows s 0 (p .at),
+          between-most grows s (p .inside) (p .from),
+          between-most grows s (p .to) (length s),
+          between-length s 0 (p .at),
+          between-length s (p .inside) (p .from),
+          between-length s (p .to) (length s),
+        )
+
+    pub spliceable : length s ≤ sourceLimit → length key ≤ sourceLimit → length value ≤ sourceLimit → Spliceable s key value p
+    spliceable h i j = record {
+      stands = e;
+      within = record { low = omega (arith, spliced-most) };
+    }
+
+    -- between tokens, where no reference rises by more than one
+    pub parted-most : Parted s p → m .up ≤ 1 → 4 * length (splicedText s key value p) ≤ 5 * length s + 4 * length key + 4 * length value + 36
+    parted-most g h =
+        let grows = grows-by-one m h in
+        omega (
+          arith,
+          spliced-length,
+          head-most,
+          stretch-most grows (g .front),
+          stretch-most grows (g .middle),
+          stretch-most grows (g .back),
+          room .long,
+          room .inside,
           stretch-length (g .middle),
+          stretch-length (g .left),
           g .middle .inside,
+          g .left .inside,
         )
 
 -- a canonical text is never longer than its source
 pub canonical-text-most : (s : List ℕ) → length (canonicalText s) ≤ length s
-unfolding quarters
-canonical-text-most s = omega (arith, tokens-most Change.Canonical (tokensBetween s 0 (length s)), between-most s 0 (length s))
+canonical-text-most s = omega (arith, between-most shrinks s 0 (length s), between-length s 0 (length s))
 
 pub canonical-within : (s : List ℕ) → length s ≤ sourceLimit → Within (canonicalText s) 0
 canonical-within s h = record { low = omega (arith, canonical-text-most s) }

@@ -61,7 +61,7 @@ plain-null s at t e = passes-token s at (scalar null) (at + 2) (tagged s at 78 5
   where
     same : (c : Change) → changedToken c (scalar null) ≡ scalar null
     same Change.Canonical = refl
-    same (Change.Raise k) = refl
+    same (Change.Renumber m) = refl
 
 -- so many digits, no more than that
 few-digits : (k n : ℕ) → length (decimal n) ≤ k → n < 10 ^ k
@@ -121,7 +121,7 @@ module _ (s : List ℕ) (at : ℕ) (t : TagAt s at (byte "i")) (colon : eqb (byt
 
         same : (c : Change) → changedToken c (scalar (int i)) ≡ scalar (int i)
         same Change.Canonical = refl
-        same (Change.Raise k) = refl
+        same (Change.Renumber m) = refl
 
 pub plain-float : (s : List ℕ) (at : ℕ) → TagAt s at (byte "d") → eqb (byteAt s (at + 1)) (byte ":") ≡ true → {end : ℕ} → PlainEnd s (at + 2) end
     → Passes s at (end + 1)
@@ -146,4 +146,4 @@ plain-float s at t colon {end} p = passes-token s at (scalar (float text)) (end 
 
     same : (c : Change) → changedToken c (scalar (float text)) ≡ scalar (float text)
     same Change.Canonical = refl
-    same (Change.Raise k) = refl
+    same (Change.Renumber m) = refl

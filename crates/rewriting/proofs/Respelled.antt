@@ -1,7 +1,6 @@
 -- The text of a token that stands in the source, changed, is the changed token's. Assumes nothing.
 use Prim.Native.Nat.{ℕ, zero, suc, _+_, _-_, _≤_}
 use native.Mathlib.Nat.{add-zero}
-use native.Mathlib.Numerals.{add-one}
 use native.Mathlib.Omega.{arith}
 use mathlib.Core.Path.{_≡_, refl, sym, ap, ap₂, _∙_, subst}
 use mathlib.Core.List.{List, [], _∷_, _++_, append-assoc}
@@ -10,7 +9,6 @@ use lib.ListN.{length, getD, drop, length-append, length-drop}
 use lib.Seq.{slice}
 use Rattle.decimal.specs.Digits.{decimal, spelled}
 use Rattle.decimal.specs.Complement.{pattern}
-use Rattle.decimal.proofs.Decide.{Order, below, above, order}
 use Rattle.decimal.proofs.Numerals.{spelled-length, spelled-some}
 use Rattle.decimal.proofs.Complements.{InBits, sign-back, magnitude-back}
 use Rattle.format.specs.Bytes.{byte}
@@ -21,15 +19,15 @@ use Rattle.format.specs.Keys.{signed, integer}
 use Rattle.format.specs.Limits.{numberLimit, integerLimit}
 use Rattle.format.specs.Table.{word}
 use Rattle.format.specs.Canonical.{shortest, shortestSign}
-use Rattle.insertion.proofs.Meanings as meanings
 use Rattle.format.proofs.Fronts.{sign-front, number-front, number-length, quoted-length}
 use Rattle.scanner.specs.declared.Text.{Text}
 use Rattle.rewriting.specs.Output.{withSign, signedDigits}
 use Rattle.rewriting.specs.Shortest.{numberedText, shortestBy, shortestText, QuotedBounds, Bounds}
-use Rattle.tokens.specs.Tokens.{Token, scalar, reference, opening, closing, ReferenceTag, writeToken, canonicalToken, raisedToken}
-use Rattle.rewriting.specs.Rewriting.{Named, raisedText, respelledText, changedToken}
+use Rattle.tokens.specs.Tokens.{Token, scalar, reference, opening, closing, ReferenceTag, writeToken, canonicalToken}
+use Rattle.rewriting.specs.Rewriting.{Named, isRenumbered, newNumber, renumberedText, respelledText, renumbered, renumberedToken, changedToken}
 use Rattle.rewriting.specs.declared.rewrite.Change.{Change}
-use Rattle.rewriting.proofs.Spelled.{spelled-high, spelled-low, spelled-other}
+use Rattle.rewriting.specs.declared.splice.Renumbering.{Renumbering}
+use Rattle.rewriting.proofs.Spelled.{spelled-moved, spelled-kept, spelled-other}
 use Rattle.tokens.proofs.Tagged.{Refers, tagged}
 use Rattle.rewriting.proofs.Outputs.{slice-of}
 use Rattle.tokens.proofs.TokenLaws.{token-front, token-some}
@@ -218,40 +216,10 @@ module _ (s : List ℕ) (at : ℕ) (x : Text) where
   respelled (opening h n) st = respelled-opening (h .container) (h .spelling) n st
   respelled closing st = by-tag 125 _ _ (st .written) (whole s at x closing st)
 
--- ---- raised
-
-module _ (k : ℕ) (s : List ℕ) (at : ℕ) (x : Text) where
-  raised-reference : (r : Reference) → Stands s at (reference r) x → ReferenceTag (getD s at 0)
-      → raisedText k s at x ≡ writeToken (raisedToken k (reference r)) []
-  raised-reference r st o = by (order (r .named) k)
-    where
-      named : x .content ≡ r .named
-      named = ap (λ (u : Text). u .content) (st .tells)
-
-      by : Order (r .named) k → raisedText k s at x ≡ writeToken (raisedToken k (reference r)) []
-      by (below h) =
-          spelled-low k s at x o (omega (arith, named)) ∙ whole s at x (reference r) st
-          ∙ ap (λ (q : Reference). writeToken (reference q) []) (sym (meanings.raised-low k r h))
-      by (above h) =
-          spelled-high k s at x o (omega (arith, named))
-          ∙ ap (λ (m : ℕ). numberedText s at m (x .next - 1) (x .next)) (add-one (x .content) ∙ ap suc named)
-          ∙ tail-of s at x (tag (refKind (r .kind))) (r .spelling) (r .named) (suc (r .named)) 1 (59 ∷ []) (st .inside) (st .written) refl
-          ∙ ap (λ (q : Reference). writeToken (reference q) []) (sym (meanings.raised-high k r h))
-
+module _ (s : List ℕ) (at : ℕ) (x : Text) where
   -- the first byte of what stands there is the token's
   first-of : (t : Token) → Stands s at t x → getD s at 0 ≡ tagged t (drop (x .next) s) .byte
   first-of t st = let g = tagged t (drop (x .next) s) in first-byte s at (g .byte) (g .behind) (st .written ∙ g .is)
-
-  other : (t : Token) → Stands s at t x → (Refers t → ⊥) → raisedText k s at x ≡ writeToken t []
-  other t st n = spelled-other k s at x (λ o. n (tagged t (drop (x .next) s) .refers (subst ReferenceTag (first-of t st) o))) ∙ whole s at x t st
-
-  -- A REFERENCE RAISED, ALL ELSE AS IT STANDS
-  pub raised-is : (t : Token) → Stands s at t x → raisedText k s at x ≡ writeToken (raisedToken k t) []
-  raised-is (scalar y) st = other (scalar y) st (λ e. e)
-  raised-is (reference r) st =
-      raised-reference r st (subst ReferenceTag (sym (first-of (reference r) st)) (tagged (reference r) (drop (x .next) s) .referred tt))
-  raised-is (opening h n) st = other (opening h n) st (λ e. e)
-  raised-is closing st = other closing st (λ e. e)
 
   named-bound : (t : Token) → Stands s at t x → Refers t → x .content ≤ numberLimit
   named-bound (scalar y) st e = absurd e
@@ -262,10 +230,46 @@ module _ (k : ℕ) (s : List ℕ) (at : ℕ) (x : Text) where
   pub named : (t : Token) → Stands s at t x → Named s at x
   named t st o = named-bound t st (tagged t (drop (x .next) s) .refers (subst ReferenceTag (first-of t st) o))
 
+-- ---- renumbered
+
+module _ (m : Renumbering) (r : Reference) where
+  pub renumbered-by : (b : Bool) → isRenumbered m (r .named) ≡ b
+      → renumbered m r ≡ elim b [ true ↦ record { kind = r .kind; spelling = shortest; named = newNumber m (r .named) } | false ↦ r ]
+  renumbered-by b e = rw (e, renumbered)
+
+module _ (m : Renumbering) (s : List ℕ) (at : ℕ) (x : Text) where
+  renumbered-reference : (r : Reference) → Stands s at (reference r) x → ReferenceTag (getD s at 0)
+      → renumberedText m s at x ≡ writeToken (renumberedToken m (reference r)) []
+  renumbered-reference r st o = by (isRenumbered m (r .named)) refl
+    where
+      named : x .content ≡ r .named
+      named = ap (λ (u : Text). u .content) (st .tells)
+
+      by : (b : Bool) → isRenumbered m (r .named) ≡ b → renumberedText m s at x ≡ writeToken (renumberedToken m (reference r)) []
+      by false e =
+          spelled-kept m s at x o (ap (isRenumbered m) named ∙ e) ∙ whole s at x (reference r) st
+          ∙ ap (λ (q : Reference). writeToken (reference q) []) (sym (renumbered-by m r false e))
+      by true e =
+          spelled-moved m s at x o (ap (isRenumbered m) named ∙ e)
+          ∙ ap (λ (n : ℕ). numberedText s at (newNumber m n) (x .next - 1) (x .next)) named
+          ∙ tail-of s at x (tag (refKind (r .kind))) (r .spelling) (r .named) (newNumber m (r .named)) 1 (59 ∷ []) (st .inside) (st .written) refl
+          ∙ ap (λ (q : Reference). writeToken (reference q) []) (sym (renumbered-by m r true e))
+
+  other : (t : Token) → Stands s at t x → (Refers t → ⊥) → renumberedText m s at x ≡ writeToken t []
+  other t st n = spelled-other m s at x (λ o. n (tagged t (drop (x .next) s) .refers (subst ReferenceTag (first-of s at x t st) o))) ∙ whole s at x t st
+
+  -- A REFERENCE RENUMBERED, ALL ELSE AS IT STANDS
+  pub renumbered-is : (t : Token) → Stands s at t x → renumberedText m s at x ≡ writeToken (renumberedToken m t) []
+  renumbered-is (scalar y) st = other (scalar y) st (λ e. e)
+  renumbered-is (reference r) st =
+      renumbered-reference r st (subst ReferenceTag (sym (first-of s at x (reference r) st)) (tagged (reference r) (drop (x .next) s) .referred tt))
+  renumbered-is (opening h n) st = other (opening h n) st (λ e. e)
+  renumbered-is closing st = other closing st (λ e. e)
+
 -- what is written of a token is the changed token
 pub changed-is : (c : Change) (s : List ℕ) (at : ℕ) (x : Text) (t : Token) → Stands s at t x → respelledText c s at x ≡ writeToken (changedToken c t) []
 changed-is Change.Canonical s at x t st = respelled s at x t st
-changed-is (Change.Raise k) s at x t st = raised-is k s at x t st
+changed-is (Change.Renumber m) s at x t st = renumbered-is m s at x t st
 
 -- ---- what is copied stands in the source
 

@@ -18,7 +18,7 @@ use Rattle.rewriting.specs.declared.rewrite.Change.{Change}
 use Rattle.rewriting.specs.declared.stretch.Stop.{Stop}
 use Rattle.rewriting.specs.Output.{Within, Puts}
 use Rattle.rewriting.specs.Shortest.{Bounds}
-use Rattle.rewriting.specs.Rewriting.{Named, respelledText, changedToken, changedText, rewrittenText}
+use Rattle.rewriting.specs.Rewriting.{Sound, Named, respelledText, changedToken, changedText, rewrittenText}
 use Rattle.rewriting.specs.Stretches.{Changes, Stays, Passes, Keeps, Halts, Ends, Stops, halted, ended}
 use Rattle.rewriting.proofs.Outputs.{Owes, owes-all, owes-none, owes-within, owes-more, slice-join}
 use Rattle.rewriting.proofs.Respelled.{changed-is, bounds, named}
@@ -128,11 +128,13 @@ module _ {s : List ℕ} {from to : ℕ} {c : Change} {w₀ : ℕ} {out₀ : List
       more : rewrittenText c s at to ≡ respelledText c s at x ++ rewrittenText c s (x .next) to
       more = rewritten-more c s at to x (h .before) (h .found)
 
-      pub token-bounds : Within (rewrittenText c s from to) w₀ → Bounds s at x × Named s at x × Changes c s at x × Within (respelledText c s at x) e
-      token-bounds a =
+      pub token-bounds : Sound c → Within (rewrittenText c s from to) w₀
+          → Sound c × Bounds s at x × Named s at x × Changes c s at x × Within (respelledText c s at x) e
+      token-bounds sound a =
           let st : Stands s at (h .found .what) x = found-stands s at x (h .found) in (
+            sound,
             bounds s at x (h .found .what) st,
-            named 0 s at x (h .found .what) st,
+            named s at x (h .found .what) st,
             h .changes,
             owes-within behind (respelledText c s at x) (rewrittenText c s (x .next) to) more a,
           )

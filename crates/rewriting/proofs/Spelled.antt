@@ -1,19 +1,21 @@
--- A token's shortest text, and its text with a reference raised, by its tag. Assumes nothing.
+-- A token's shortest text, and its text with a reference renumbered, by its tag. Assumes nothing.
 use Prim.Native.Nat.{ℕ, _+_, _-_, _≤_, _<_}
 use native.Mathlib.Omega.{arith}
 use mathlib.Core.Path.{_≡_, refl, ap, ap₂}
 use mathlib.Core.Logic.{inl, inr, ⊎-elim}
-use mathlib.Core.Bool.{Bool, true, false, _&&_}
+use mathlib.Core.Bool.{Bool, true, false, not, _&&_}
 use mathlib.Core.List.{List, [], _∷_}
-use lib.Dec.{leb}
+use lib.Dec.{eqb, leb, leb→le}
 use lib.ListN.{getD}
 use lib.Seq.{slice}
-use borrow.Author.Tests.{ne-eqb, le-leb, lt-leb}
+use borrow.Author.Tests.{ne-eqb, eq-eqb, le-leb, lt-leb}
+use Rattle.decimal.proofs.Decide.{T-of, and-right}
 use Rattle.format.specs.Kind.{Kind, tag, isTagOf}
 use Rattle.scanner.specs.declared.Text.{Text}
 use Rattle.tokens.specs.Tokens.{ReferenceTag}
-use Rattle.rewriting.specs.Rewriting.{raisedIf, raisedText, respelledText}
+use Rattle.rewriting.specs.Rewriting.{isRenumbered, newNumber, renumberedIf, renumberedText, respelledText}
 use Rattle.rewriting.specs.declared.rewrite.Change.{Change}
+use Rattle.rewriting.specs.declared.splice.Renumbering.{Renumbering}
 use Rattle.rewriting.specs.Shortest.{numberedText, shortestSigned, objectHeadText, shortestBy, shortestText, Bounds}
 
 module _ (s : List ℕ) (at : ℕ) (x : Text) where
@@ -52,25 +54,49 @@ module _ (s : List ℕ) (at : ℕ) (x : Text) where
         ne-eqb (getD s at 0) 82 (λ i. n₅ (inl i)),
       )
 
--- ---- raised
+-- ---- renumbered
 
 referring : (b : ℕ) → ReferenceTag b → isTagOf (Kind.objectReference ∷ Kind.variableReference ∷ []) b ≡ true
 referring b o = ⊎-elim (λ i. rw i) (λ i. rw i) o
 
-module _ (k : ℕ) (s : List ℕ) (at : ℕ) (x : Text) where
-  raised-as : (a b : Bool) → isTagOf (Kind.objectReference ∷ Kind.variableReference ∷ []) (getD s at 0) ≡ a → leb k (x .content) ≡ b
-      → raisedText k s at x ≡ raisedIf (a && b) s at x
-  unfolding raisedText
-  raised-as a b e f = ap₂ (λ (p q : Bool). raisedIf (p && q) s at x) e f
+module _ (m : Renumbering) (n : ℕ) where
+  pub moved : (m .down ≡ m .up → ⊥) → m .from ≤ n → isRenumbered m n ≡ true
+  unfolding isRenumbered
+  moved e h = rw (ne-eqb (m .down) (m .up) e, le-leb (m .from) n h)
 
-  pub spelled-high : ReferenceTag (getD s at 0) → k ≤ x .content → raisedText k s at x ≡ numberedText s at (x .content + 1) (x .next - 1) (x .next)
-  spelled-high o h = raised-as true true (referring (getD s at 0) o) (le-leb k (x .content) h)
+  pub unmoved : m .down ≡ m .up → isRenumbered m n ≡ false
+  unfolding isRenumbered
+  unmoved e = rw (eq-eqb (m .down) (m .up) e)
 
-  pub spelled-low : ReferenceTag (getD s at 0) → x .content < k → raisedText k s at x ≡ slice at (x .next) s
-  spelled-low o h = raised-as true false (referring (getD s at 0) o) (lt-leb k (x .content) h)
+  pub before : n < m .from → isRenumbered m n ≡ false
+  unfolding isRenumbered
+  before h = by (not (eqb (m .down) (m .up))) (lt-leb (m .from) n h)
+    where
+      by : (b : Bool) {c : Bool} → c ≡ false → (b && c) ≡ false
+      by true e = e
+      by false e = refl
 
-  pub spelled-other : (ReferenceTag (getD s at 0) → ⊥) → raisedText k s at x ≡ slice at (x .next) s
-  spelled-other n = raised-as false (leb k (x .content)) (rw (ne-eqb (getD s at 0) 114 (λ i. n (inr i)), ne-eqb (getD s at 0) 82 (λ i. n (inl i)))) refl
+  -- what is renumbered names one from the first on
+  pub from-on : isRenumbered m n ≡ true → m .from ≤ n
+  unfolding isRenumbered
+  from-on e = leb→le (m .from) n (and-right (not (eqb (m .down) (m .up))) (leb (m .from) n) (T-of e))
+
+module _ (m : Renumbering) (s : List ℕ) (at : ℕ) (x : Text) where
+  renumbered-as : (a b : Bool) → isTagOf (Kind.objectReference ∷ Kind.variableReference ∷ []) (getD s at 0) ≡ a → isRenumbered m (x .content) ≡ b
+      → renumberedText m s at x ≡ renumberedIf (a && b) m s at x
+  unfolding renumberedText
+  renumbered-as a b e f = ap₂ (λ (p q : Bool). renumberedIf (p && q) m s at x) e f
+
+  pub spelled-moved : ReferenceTag (getD s at 0) → isRenumbered m (x .content) ≡ true
+      → renumberedText m s at x ≡ numberedText s at (newNumber m (x .content)) (x .next - 1) (x .next)
+  spelled-moved o e = renumbered-as true true (referring (getD s at 0) o) e
+
+  pub spelled-kept : ReferenceTag (getD s at 0) → isRenumbered m (x .content) ≡ false → renumberedText m s at x ≡ slice at (x .next) s
+  spelled-kept o e = renumbered-as true false (referring (getD s at 0) o) e
+
+  pub spelled-other : (ReferenceTag (getD s at 0) → ⊥) → renumberedText m s at x ≡ slice at (x .next) s
+  spelled-other n =
+      renumbered-as false (isRenumbered m (x .content)) (rw (ne-eqb (getD s at 0) 114 (λ i. n (inr i)), ne-eqb (getD s at 0) 82 (λ i. n (inl i)))) refl
 
 -- ---- by the change
 
@@ -78,8 +104,8 @@ module _ {c : Change} (s : List ℕ) (at : ℕ) (x : Text) where
   pub as-canonical : c ≡ Change.Canonical → respelledText c s at x ≡ shortestText s at x
   as-canonical e = ap (λ (d : Change). respelledText d s at x) e
 
-  pub as-raised : {k : ℕ} → c ≡ Change.Raise k → respelledText c s at x ≡ raisedText k s at x
-  as-raised e = ap (λ (d : Change). respelledText d s at x) e
+  pub as-renumbered : {m : Renumbering} → c ≡ Change.Renumber m → respelledText c s at x ≡ renumberedText m s at x
+  as-renumbered e = ap (λ (d : Change). respelledText d s at x) e
 
 -- a reference is more than its tag
 pub more-of : {s : List ℕ} {at : ℕ} {x : Text} → Bounds s at x → ReferenceTag (getD s at 0) → at + 2 ≤ x .next

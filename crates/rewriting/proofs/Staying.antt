@@ -21,11 +21,12 @@ use Rattle.scanner.specs.Scans.{Found}
 use Rattle.tokens.specs.Tokens.{Token, scalar, reference, opening, closing, ReferenceTag, readToken, tokenTold, writeToken, canonicalToken}
 use Rattle.tokens.proofs.Standing.{Stands, first-byte, found-stands}
 use Rattle.rewriting.specs.declared.rewrite.Change.{Change}
+use Rattle.rewriting.specs.declared.splice.Renumbering.{Renumbering}
 use Rattle.rewriting.specs.Shortest.{ShortestFront, shortestText, Bounds}
-use Rattle.rewriting.specs.Rewriting.{respelledText}
+use Rattle.rewriting.specs.Rewriting.{isRenumbered, respelledText}
 use Rattle.rewriting.specs.Shortest as fronts
 use Rattle.rewriting.specs.Stretches.{Changes, Stays}
-use Rattle.rewriting.proofs.Spelled.{as-canonical, as-raised, spelled-low, spelled-other}
+use Rattle.rewriting.proofs.Spelled.{as-canonical, as-renumbered, spelled-kept, spelled-other}
 use Rattle.rewriting.proofs.Respelled.{whole, respelled, bounds}
 
 -- ---- digits
@@ -145,10 +146,10 @@ module _ {c : Change} (s : List ℕ) (at : ℕ) (x : Text) where
 
   -- canonical text: nothing is asked of a token that is written again
   rewritten-whatever : c ≡ Change.Canonical → Changes c s at x
-  rewritten-whatever e = record { raises = λ k i. absurd (never k (sym e ∙ i)) }
+  rewritten-whatever e = record { moves = λ m i. absurd (never m (sym e ∙ i)) }
     where
-      never : (k : ℕ) → Change.Canonical ≡ Change.Raise k → ⊥
-      never k j = let z : _≡_ {A = ℕ} 0 1 = cc in omega arith
+      never : (m : Renumbering) → Change.Canonical ≡ Change.Renumber m → ⊥
+      never m j = let z : _≡_ {A = ℕ} 0 1 = cc in omega arith
 
   pub unnumbered-stays : c ≡ Change.Canonical → Unnumbered (getD s at 0) → Stays c s at x true
   unnumbered-stays e p = does-stay (as-canonical s at x e ∙ unnumbered-text s at x p)
@@ -168,15 +169,18 @@ module _ {c : Change} (s : List ℕ) (at : ℕ) (x : Text) where
           as-canonical s at x e ∙ respelled s at x (f .what) st ∙ ap (λ (t : Token). writeToken t []) (same-token s at x n (f .what) st h)
           ∙ sym (whole s at x (f .what) st)
 
-  module _ {k : ℕ} (e : c ≡ Change.Raise k) where
-    pub reference-stays : ReferenceTag (getD s at 0) → x .content < k → Stays c s at x true
-    reference-stays o h = does-stay (as-raised s at x e ∙ spelled-low k s at x o h)
+  module _ {m : Renumbering} (e : c ≡ Change.Renumber m) where
+    pub reference-stays : ReferenceTag (getD s at 0) → isRenumbered m (x .content) ≡ false → Stays c s at x true
+    reference-stays o h = does-stay (as-renumbered s at x e ∙ spelled-kept m s at x o h)
 
-    pub reference-changes : ReferenceTag (getD s at 0) → k ≤ x .content → Stays c s at x false
-    reference-changes o h = record { kept = λ i. absurd (false≢true i); changes = λ i. record { raises = λ m j. (o, omega (arith, h, one (sym e ∙ j))) } }
+    pub reference-changes : ReferenceTag (getD s at 0) → isRenumbered m (x .content) ≡ true → Stays c s at x false
+    reference-changes o h = record {
+      kept = λ i. absurd (false≢true i);
+      changes = λ i. record { moves = λ n j. (o, subst (λ (u : Renumbering). isRenumbered u (x .content) ≡ true) (one (sym e ∙ j)) h) };
+    }
       where
-        one : {m : ℕ} → Change.Raise k ≡ Change.Raise m → k ≡ m
+        one : {n : Renumbering} → Change.Renumber m ≡ Change.Renumber n → m ≡ n
         one j = cc
 
     pub other-stays : (ReferenceTag (getD s at 0) → ⊥) → Stays c s at x true
-    other-stays n = does-stay (as-raised s at x e ∙ spelled-other k s at x n)
+    other-stays n = does-stay (as-renumbered s at x e ∙ spelled-other m s at x n)

@@ -2,7 +2,7 @@
 use mathlib.Core.Path.{_≡_}
 use mathlib.Core.List.{List, _++_}
 use mathlib.Core.Bool.{Bool, true, _&&_}
-use Prim.Native.Nat.{ℕ, _+_, _-_}
+use Prim.Native.Nat.{ℕ, _-_}
 use lib.Dec.{leb}
 use lib.ListN.{length}
 use lib.Seq.{sets}
@@ -11,8 +11,8 @@ use Rattle.format.specs.Answer.{Answer, ok, refused, _>>=_, require}
 use Rattle.tokens.specs.Between.{Stretch}
 use Rattle.rewriting.specs.declared.Edit.{Edit}
 use Rattle.rewriting.specs.declared.Edited.{Edited}
-use Rattle.rewriting.specs.declared.inserted.Spot.{Spot}
 use Rattle.rewriting.specs.declared.rewrite.Change.{Change}
+use Rattle.rewriting.specs.declared.splice.Splice.{Splice}
 use Rattle.rewriting.specs.Output.{Within}
 use Rattle.rewriting.specs.Shortest.{numberedText}
 use Rattle.rewriting.specs.Rewriting.{rewrittenText}
@@ -21,32 +21,35 @@ use Rattle.rewriting.specs.Rewriting.{rewrittenText}
 abbrev pub canonicalText : List ℕ → List ℕ
 canonicalText s = rewrittenText Change.Canonical s 0 (length s)
 
--- the array's head with one pair more: its tag and colon, the count in shortest form, a colon and a brace
-abbrev pub grownHead : List ℕ → Spot → List ℕ
-grownHead s p = numberedText s (p .at) (p .count + 1) (p .inside - 2) (p .inside)
+-- the array's head with its new count: its tag and colon, the count in shortest form, a colon and a brace
+abbrev pub splicedHead : List ℕ → Splice → List ℕ
+splicedHead s p = numberedText s (p .at) (p .count) (p .inside - 2) (p .inside)
 
--- "Both go in as they stand", the head says one more, and references from the new ordinal on are raised, wherever they stand
-abbrev pub insertedText : (s key value : List ℕ) → Spot → List ℕ
-insertedText s key value p =
-    rewrittenText (Change.Raise (p .ordinal)) s 0 (p .at)
-    ++ (grownHead s p ++ (rewrittenText (Change.Raise (p .ordinal)) s (p .inside) (p .gap)
-    ++ (key ++ (value ++ rewrittenText (Change.Raise (p .ordinal)) s (p .gap) (length s)))))
+-- the bytes before the head, the head, those behind it up to where bytes are left out, "Both go in as they stand", and the bytes from there on; references
+-- renumbered, wherever they stand
+abbrev pub splicedText : (s key value : List ℕ) → Splice → List ℕ
+splicedText s key value p =
+    rewrittenText (Change.Renumber (p .renumbering)) s 0 (p .at)
+    ++ (splicedHead s p ++ (rewrittenText (Change.Renumber (p .renumbering)) s (p .inside) (p .from)
+    ++ (key ++ (value ++ rewrittenText (Change.Renumber (p .renumbering)) s (p .to) (length s)))))
 
 abbrev pub editedText : (s : List ℕ) → Edit → (key value : List ℕ) → List ℕ
 editedText s Edit.Canonical key value = canonicalText s
-editedText s (Edit.Insert p) key value = insertedText s key value p
+editedText s (Edit.Splice p) key value = splicedText s key value p
 
--- ---- what is edited at all: texts that a plan can hold, and a head whose parts are there
+-- ---- what is edited at all: texts that a plan can hold, and a splice whose head is there, and whose numbers do not overflow
 
-abbrev pub stands : (size : ℕ) → Spot → Bool
-stands n p = leb 2 (p .inside) && (leb (p .at) (p .inside - 2) && (leb (p .inside) n && leb (p .count) numberLimit))
+abbrev pub stands : (size : ℕ) → Splice → Bool
+stands n p =
+    leb 2 (p .inside) && (leb (p .at) (p .inside - 2) && (leb (p .inside) n && (leb (p .count) numberLimit
+    && (leb (p .renumbering .up) numberLimit && leb (p .renumbering .down) (p .renumbering .from)))))
 
-abbrev pub spotInside : (size : ℕ) → Edit → Bool
-spotInside n Edit.Canonical = true
-spotInside n (Edit.Insert p) = stands n p
+abbrev pub editStands : (size : ℕ) → Edit → Bool
+editStands n Edit.Canonical = true
+editStands n (Edit.Splice p) = stands n p
 
 abbrev pub writable : (size : ℕ) → Edit → (key value : ℕ) → Bool
-writable n e key value = leb n sourceLimit && (leb key sourceLimit && (leb value sourceLimit && spotInside n e))
+writable n e key value = leb n sourceLimit && (leb key sourceLimit && (leb value sourceLimit && editStands n e))
 
 -- WHAT WRITING ANSWERS AND LEAVES
 
@@ -76,15 +79,16 @@ pub record Edits (s : List ℕ) (e : Edit) (key value out out′ : List ℕ) (r 
   pub answer : editedAnswer r ≡ lengthEdited (editedBytes s e key value)
   pub output : out′ ≡ outputEdited (editedBytes s e key value) out
 
--- ---- what holds of an insertion
+-- ---- what holds of a splice
 
--- a place between tokens: they fill the source before the array's head, behind it up to the gap, and from there on
-pub record Parted (s : List ℕ) (p : Spot) : Type 0 where
+-- indices between tokens: they fill the source before the array's head, behind it up to where bytes are left out, there, and from there on
+pub record Parted (s : List ℕ) (p : Splice) : Type 0 where
   pub front : Stretch s 0 (p .at)
-  pub middle : Stretch s (p .inside) (p .gap)
-  pub back : Stretch s (p .gap) (length s)
+  pub middle : Stretch s (p .inside) (p .from)
+  pub left : Stretch s (p .from) (p .to)
+  pub back : Stretch s (p .to) (length s)
 
--- an insertion that is written: no index overflows
-pub record Insertable (s key value : List ℕ) (p : Spot) : Type 0 where
-  pub head : stands (length s) p ≡ true
-  pub within : Within (insertedText s key value p) 0
+-- a splice that is written: no index overflows
+pub record Spliceable (s key value : List ℕ) (p : Splice) : Type 0 where
+  pub stands : stands (length s) p ≡ true
+  pub within : Within (splicedText s key value p) 0

@@ -1,17 +1,25 @@
 -- The tokens of any bytes, each changed in the same way.
+use mathlib.Core.Path.{_≡_}
 use mathlib.Core.List.{List, [], _∷_, map}
-use mathlib.Core.Bool.{Bool, true, false, _&&_}
+use mathlib.Core.Bool.{Bool, true, false, not, _&&_}
 use Prim.Native.Nat.{ℕ, _+_, _-_, _≤_}
-use lib.Dec.{leb}
+use lib.Dec.{eqb, leb}
 use lib.ListN.{getD}
 use lib.Seq.{slice}
 use Rattle.format.specs.Kind.{Kind, isTagOf}
+use Rattle.format.specs.Syntax.{Reference}
 use Rattle.format.specs.Limits.{numberLimit}
+use Rattle.format.specs.Canonical.{shortest}
 use Rattle.scanner.specs.declared.Text.{Text}
 use Rattle.rewriting.specs.declared.rewrite.Change.{Change}
+use Rattle.rewriting.specs.declared.splice.Renumbering.{Renumbering}
 use Rattle.rewriting.specs.Shortest.{numberedText, shortestText}
-use Rattle.tokens.specs.Tokens.{Token, ReferenceTag, writeTokens, canonicalToken, raisedToken}
+use Rattle.tokens.specs.Tokens.{Token, scalar, reference, opening, closing, ReferenceTag, writeTokens, canonicalToken}
 use Rattle.tokens.specs.Between.{tokensBetween}
+
+-- no number falls below zero, and none overflows
+pub record Sound (c : Change) : Type 0 where
+  pub numbers : (m : Renumbering) → c ≡ Change.Renumber m → (m .up ≤ numberLimit) × (m .down ≤ m .from)
 
 -- ---- one token, by what its text tells
 
@@ -19,23 +27,48 @@ use Rattle.tokens.specs.Between.{tokensBetween}
 abbrev pub Named : List ℕ → (at : ℕ) → Text → Type 0
 Named s at x = ReferenceTag (getD s at 0) → x .content ≤ numberLimit
 
-abbrev pub raisedIf : (raise : Bool) → List ℕ → (at : ℕ) → Text → List ℕ
-raisedIf true s at x = numberedText s at (x .content + 1) (x .next - 1) (x .next)
-raisedIf false s at x = slice at (x .next) s
+-- one from the first on that moves, if any does
+unfoldable pub isRenumbered : Renumbering → (named : ℕ) → Bool
+isRenumbered m n = not (eqb (m .down) (m .up)) && leb (m .from) n
 
--- a reference to an ordinal from this one on, one higher; all else copied
-unfoldable pub raisedText : (from : ℕ) → List ℕ → (at : ℕ) → Text → List ℕ
-raisedText k s at x = raisedIf (isTagOf (Kind.objectReference ∷ Kind.variableReference ∷ []) (getD s at 0) && leb k (x .content)) s at x
+abbrev pub newNumber : Renumbering → (named : ℕ) → ℕ
+newNumber m n = n - m .down + m .up
+
+-- inserting's: one higher from an ordinal on
+abbrev pub raising : (ordinal : ℕ) → Renumbering
+raising k = record { from = k; down = 0; up = 1 }
+
+abbrev pub renumberedIf : Bool → Renumbering → List ℕ → (at : ℕ) → Text → List ℕ
+renumberedIf true m s at x = numberedText s at (newNumber m (x .content)) (x .next - 1) (x .next)
+renumberedIf false m s at x = slice at (x .next) s
+
+-- a reference that moves, by its new number; all else copied
+unfoldable pub renumberedText : Renumbering → List ℕ → (at : ℕ) → Text → List ℕ
+renumberedText m s at x =
+    renumberedIf (isTagOf (Kind.objectReference ∷ Kind.variableReference ∷ []) (getD s at 0) && isRenumbered m (x .content)) m s at x
 
 abbrev pub respelledText : Change → List ℕ → (at : ℕ) → Text → List ℕ
 respelledText Change.Canonical s at x = shortestText s at x
-respelledText (Change.Raise k) s at x = raisedText k s at x
+respelledText (Change.Renumber m) s at x = renumberedText m s at x
 
 -- ---- tokens
 
+-- "Each reference naming t with t ≥ k is rewritten as t + 1, shortest form; other references keep their bytes.", for any numbers (`raised-is`)
+abbrev pub renumbered : Renumbering → Reference → Reference
+renumbered m r = elim (isRenumbered m (r .named)) [
+  | true ↦ record { kind = r .kind; spelling = shortest; named = newNumber m (r .named) }
+  | false ↦ r
+]
+
+abbrev pub renumberedToken : Renumbering → Token → Token
+renumberedToken m (scalar x) = scalar x
+renumberedToken m (reference r) = reference (renumbered m r)
+renumberedToken m (opening h n) = opening h n
+renumberedToken m closing = closing
+
 abbrev pub changedToken : Change → Token → Token
 changedToken Change.Canonical t = canonicalToken t
-changedToken (Change.Raise k) t = raisedToken k t
+changedToken (Change.Renumber m) t = renumberedToken m t
 
 abbrev pub changedText : Change → List Token → List ℕ
 changedText c ts = writeTokens (map (changedToken c) ts) []

@@ -9,14 +9,15 @@ use Rattle.scanner.specs.declared.Text.{Text}
 use Rattle.scanner.specs.Scans.{Found}
 use Rattle.tokens.specs.Tokens.{readToken, tokenTold, ReferenceTag}
 use Rattle.rewriting.specs.declared.rewrite.Change.{Change}
+use Rattle.rewriting.specs.declared.splice.Renumbering.{Renumbering}
 use Rattle.rewriting.specs.declared.stretch.Stop.{Stop}
-use Rattle.rewriting.specs.Rewriting.{respelledText, rewrittenText}
+use Rattle.rewriting.specs.Rewriting.{isRenumbered, respelledText, rewrittenText}
 
 -- ---- one token
 
--- it is written again: where references are raised, it is one that is
+-- it is written again: where references are renumbered, it is one that is
 pub record Changes (c : Change) (s : List ℕ) (at : ℕ) (x : Text) : Type 0 where
-  pub raises : (k : ℕ) → c ≡ Change.Raise k → ReferenceTag (getD s at 0) × (k ≤ x .content)
+  pub moves : (m : Renumbering) → c ≡ Change.Renumber m → ReferenceTag (getD s at 0) × (isRenumbered m (x .content) ≡ true)
 
 pub record Stays (c : Change) (s : List ℕ) (at : ℕ) (x : Text) (r : Bool) : Type 0 where
   pub kept : r ≡ true → respelledText c s at x ≡ slice at (x .next) s

@@ -1,28 +1,28 @@
-// What an edit writes: the canonical text of a source, or the source with a pair put in. Takes any bytes, and writes as much as the output has room for; gives
-// the length of the whole. Texts longer than a plan, and a place whose head is not in the source, are not edited at all (`Unfit`): so no index overflows.
+// What an edit writes: the canonical text of a source, or the source spliced. Takes any bytes, and writes as much as the output has room for; gives the length
+// of the whole. Texts longer than a plan, and a splice whose head is not in the source, are not edited at all (`Unfit`): so no index overflows.
 // Nothing else is refused. The editor calls `write`, first into an empty output where the text has to be measured.
 // The text is defined on any bytes (specs/Edited, `editedText`), and the code equals it. That it is the right text for a plan that was read is a lemma: tokens
 // that fill the bytes are those between (`between-stretch`, crates/tokens).
 // Goes by tokens, scanned again, since no tag's offset stands in the table: those that stay are passed and copied as one stretch, the others written again.
-use crate::inserted::Spot;
-use crate::inserted::has_head;
-use crate::inserted::write_inserted;
 use crate::rewrite::Change;
 use crate::rewrite::rewrite;
+use crate::splice::Splice;
+use crate::splice::can_splice;
+use crate::splice::write_spliced;
 use format::limits::SOURCE_LIMIT;
 ghost use mathlib.Core.Path.{_≡_};
 ghost use Rattle.rewriting.specs.Edited.{writable, Edits};
 
-pub mod inserted;
 mod output;
 mod plain;
 mod rewrite;
 mod shortest;
+pub mod splice;
 mod stretch;
 
 pub enum Edit {
     Canonical,
-    Insert(Spot),
+    Splice(Splice),
 }
 
 // The length of the whole; or that it is not edited at all, which is 14 (`editedAnswer`, specs/Edited).
@@ -46,7 +46,7 @@ fn can_write(size: usize, edit: Edit, key: usize, value: usize) -> bool
     }
     match edit {
         Edit::Canonical => true,
-        Edit::Insert(spot) => has_head(size, spot),
+        Edit::Splice(splice) => can_splice(size, splice),
     }
 }
 
@@ -59,7 +59,7 @@ pub fn write(source: &[u8], edit: Edit, key: &[u8], value: &[u8], out: &mut [u8]
     }
     let length = match edit {
         Edit::Canonical => rewrite(source, 0, source.len(), Change::Canonical, out, 0),
-        Edit::Insert(spot) => write_inserted(source, spot, key, value, out),
+        Edit::Splice(splice) => write_spliced(source, splice, key, value, out),
     };
     Edited::Written(length)
 }

@@ -4,32 +4,33 @@
 use crate::output::copy;
 use crate::shortest::numbered;
 use crate::shortest::shortest;
+use crate::splice::Renumbering;
 use crate::stretch::Stop;
 use crate::stretch::stretch;
 use scanner::Text;
 ghost use Rattle.rewriting.specs.Output.{Within, Puts};
 ghost use Rattle.rewriting.specs.Shortest.{Bounds};
-ghost use Rattle.rewriting.specs.Rewriting.{Named, respelledText, rewrittenText};
+ghost use Rattle.rewriting.specs.Rewriting.{Sound, Named, respelledText, rewrittenText};
 ghost use Rattle.rewriting.specs.Stretches.{Changes};
 
-// What becomes of a token: it is written in canonical spelling; or a reference to an ordinal from this one on names the next, in shortest form, and all else
-// is copied.
+// What becomes of a token: it is written in canonical spelling; or a reference that moves names another ordinal, in shortest form, and all else is copied.
 pub enum Change {
     Canonical,
-    Raise(u64),
+    Renumber(Renumbering),
 }
 
-// The token at an index, whose text is known, changed: in canonical spelling, or a reference raised.
+// The token at an index, whose text is known, changed: in canonical spelling, or a reference renumbered.
 fn respell(source: &[u8], at: usize, text: Text, change: Change, out: &mut [u8], w: usize) -> usize
-    requires { ⌜ Bounds (now source) at text × Named (now source) at text × Changes change (now source) at text
+    requires { ⌜ Sound change × Bounds (now source) at text × Named (now source) at text × Changes change (now source) at text
         × Within (respelledText change (now source) at text) w ⌝ }
     ensures { λ r. ⌜ Puts (respelledText change (now (source .entry)) at text) w (now (out .entry)) r (now (out .exit)) ⌝ }
 {
     match change {
         Change::Canonical => shortest(source, at, text, out, w),
-        Change::Raise(_) => {
+        Change::Renumber(renumbering) => {
             let next = text.next;
-            numbered(source, at, text.content + 1, next - 1, next, out, w)
+            let named = text.content - renumbering.down + renumbering.up;
+            numbered(source, at, named, next - 1, next, out, w)
         }
     }
 }
@@ -43,7 +44,7 @@ pub(crate) fn rewrite(
     out: &mut [u8],
     w: usize,
 ) -> usize
-    requires { ⌜ Within (rewrittenText change (now source) from to) w ⌝ }
+    requires { ⌜ Sound change × Within (rewrittenText change (now source) from to) w ⌝ }
     ensures { λ r. ⌜ Puts (rewrittenText change (now (source .entry)) from to) w (now (out .entry)) r (now (out .exit)) ⌝ }
 {
     if source.len() < from {

@@ -25,10 +25,13 @@ fn stays(source: &[u8], at: usize, text: Text, change: Change) -> bool
             Kind::OBJECT => false,
             _ => is_shortest(source[at + 2], source[at + 3]),
         },
-        Change::Raise(from) => match tag {
+        Change::Renumber(renumbering) => match tag {
             Kind::OBJECT_REFERENCE | Kind::VARIABLE_REFERENCE => {
+                if renumbering.down == renumbering.up {
+                    return true;
+                }
                 let named = text.content;
-                if from <= named {
+                if renumbering.from <= named {
                     return false;
                 }
                 true

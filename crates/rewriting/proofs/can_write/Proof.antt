@@ -26,15 +26,15 @@ enum-told c = search needs
 enum-known-edit : tie.Need-enum-known-edit
 enum-known-edit c = search needs
 
-has-head-requires : tie.Need-has-head-requires
-has-head-requires c κs = search needs
+can-splice-requires : tie.Need-can-splice-requires
+can-splice-requires c κs = search needs
 
 returns-4 : tie.Need-returns-4
 returns-4 c =
     let short = c .before .before in
     let args = short .before .before .before .args in
     sym
-    (editable.by-spot _ (args .edit) _ _ (short .before .before .if1 .left) (short .before .if2 .left) (short .if3 .left)
+    (editable.by-stands _ (args .edit) _ _ (short .before .before .if1 .left) (short .before .if2 .left) (short .if3 .left)
     ∙ editable.inside-canonical _ _ (args .key) (args .value) (c .enum-told .given .1))
 
 returns-5 : tie.Need-returns-5
@@ -42,10 +42,10 @@ returns-5 c =
     let known = c .before .before in
     let short = known .before .before in
     let args = short .before .before .before .args in
-    c .has-head .ensures
+    c .can-splice .ensures
     ∙ sym
-    (editable.by-spot _ (args .edit) _ _ (short .before .before .if1 .left) (short .before .if2 .left) (short .if3 .left)
-    ∙ editable.inside-insert _ _ (args .key) (args .value) (known .edit .given .1))
+    (editable.by-stands _ (args .edit) _ _ (short .before .before .if1 .left) (short .before .if2 .left) (short .if3 .left)
+    ∙ editable.inside-splice _ _ (args .key) (args .value) (known .edit .given .1))
 
 pub can-write-spec : {M : Type 1} → statement M
 can-write-spec =
@@ -56,6 +56,6 @@ can-write-spec =
     returns-3
     enum-told
     enum-known-edit
-    has-head-requires
+    can-splice-requires
     returns-4
     returns-5)

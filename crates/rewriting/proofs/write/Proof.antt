@@ -26,7 +26,7 @@ returns-2 c =
 returns-3 : tie.Need-returns-3
 returns-3 c =
     let known = c .before .before .before .before .before in
-    editable.puts-edited _ _ _ _ (fit (known .before .before)) (editable.as-insert _ _ _ (known .edit .given .1)) (c .before .before .write-inserted .ensures)
+    editable.puts-edited _ _ _ _ (fit (known .before .before)) (editable.as-splice _ _ _ (known .edit .given .1)) (c .before .before .write-spliced .ensures)
 
 can-write-requires : tie.Need-can-write-requires
 can-write-requires c κs = search needs
@@ -45,8 +45,8 @@ rewrite-requires c κs =
 enum-known-edit : tie.Need-enum-known-edit
 enum-known-edit c = search needs
 
-write-inserted-requires : tie.Need-write-inserted-requires
-write-inserted-requires c κs = editable.insert-room _ _ _ _ (fit (c .before .before .before .before)) (c .before .before .edit .given .1)
+write-spliced-requires : tie.Need-write-spliced-requires
+write-spliced-requires c κs = editable.splice-room _ _ _ _ (fit (c .before .before .before .before)) (c .before .before .edit .given .1)
 
 same-length : tie.Need-same-length
 same-length c = search needs
@@ -63,7 +63,7 @@ write-spec =
     enum-told
     rewrite-requires
     enum-known-edit
-    write-inserted-requires
+    write-spliced-requires
     same-length
     returns-2
     same-length-2

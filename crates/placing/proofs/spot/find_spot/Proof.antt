@@ -146,6 +146,9 @@ returns-6 c =
 sub-spot-at : tie.Need-sub-spot-at
 sub-spot-at c = omega (arith, steps.gap-is (found (texts-told (c .before .before .before .before .before .before))))
 
+add-spot-at : tie.Need-add-spot-at
+add-spot-at c = omega (arith, spots.one-more (found (texts-told (c .before .before .before .before .before .before))))
+
 spot-at-requires : tie.Need-spot-at-requires
 spot-at-requires c κs =
     let passed = c .before .before .before .before .before .before in
@@ -191,5 +194,6 @@ find-spot-spec =
     enum-told-6
     returns-6
     sub-spot-at
+    add-spot-at
     spot-at-requires
     returns-7)

@@ -17,7 +17,7 @@ returns : tie.Need-returns
 returns c = λ a.
     let behind = c .before .behind-head .ensures (a .head) in
     let gap = gaps.behind-gap (c .pass .ensures (a .pairs _ (behind .here) (behind .inside))) (a .same _ (behind .here) (behind .inside)) in
-    record { tag = refl; first = behind; gap = gap; counted = refl; taken = refl }
+    record { tag = refl; first = behind; gap = gap; none = refl; counted = refl; taken = refl }
 
 pub spot-at-spec : {M : Type 1} → statement M
 spot-at-spec = tie.close (tie.spec behind-head-requires pass-requires returns)

@@ -10,10 +10,10 @@ use Rattle.rewriting.proofs.rewrite.respell.Tie as tie
 -- the text first: what an edit breaks is seen there
 returns-2 : tie.Need-returns-2
 returns-2 c =
-    let told = c .before .before .before .before .before in
-    let pre = told .before .before .before .before .pre in
-    let changes = pre .2 .raises _ (told .enum-told2 .given .1) in
-    puts-as (spelled.as-raised _ _ _ (told .enum-told2 .given .1) ∙ spelled.spelled-high _ _ _ _ (changes .0) (changes .1))
+    let known = c .before .before .before .before .before .before .before .before in
+    let pre = known .before .before .before .before .pre in
+    let changes = pre .3 .moves _ (known .change .given .1) in
+    puts-as (spelled.as-renumbered _ _ _ (known .change .given .1) ∙ spelled.spelled-moved _ _ _ _ (changes .0) (changes .1))
     (c .before .before .numbered .ensures)
 
 enum-told : tie.Need-enum-told
@@ -22,29 +22,39 @@ enum-told c = search needs
 shortest-requires : tie.Need-shortest-requires
 shortest-requires c κs =
     let pre = c .before .before .before .before .before .pre in
-    (pre .0, within-as (spelled.as-canonical _ _ _ (c .before .enum-told .given .1)) (pre .3))
+    (pre .1, within-as (spelled.as-canonical _ _ _ (c .before .enum-told .given .1)) (pre .4))
 
-enum-told-2 : tie.Need-enum-told-2
-enum-told-2 c = search needs
+enum-known-change : tie.Need-enum-known-change
+enum-known-change c = search needs
 
-add-numbered : tie.Need-add-numbered
-add-numbered c =
-    let pre = c .before .before .before .before .before .pre in
-    let changes = pre .2 .raises _ (c .before .enum-told2 .given .1) in
-    omega (arith, pre .1 (changes .0))
+-- the reference that moves, and by what numbers
+sub-named : tie.Need-sub-named
+sub-named c =
+    let known = c .before .before .before in
+    let pre = known .before .before .before .before .pre in
+    let changes = pre .3 .moves _ (known .change .given .1) in
+    omega (arith, spelled.from-on _ _ (changes .1), pre .0 .numbers _ (known .change .given .1) .1)
+
+add-named : tie.Need-add-named
+add-named c =
+    let known = c .before .before .before .before in
+    let pre = known .before .before .before .before .pre in
+    let changes = pre .3 .moves _ (known .change .given .1) in
+    omega (arith, pre .2 (changes .0), pre .0 .numbers _ (known .change .given .1) .0)
 
 sub-numbered : tie.Need-sub-numbered
 sub-numbered c = search needs
 
 numbered-requires : tie.Need-numbered-requires
 numbered-requires c κs =
-    let pre = c .before .before .before .before .before .before .pre in
-    let raising = c .before .before .enum-told2 .given .1 in
-    let changes = pre .2 .raises _ raising in (
-      omega (arith, pre .0 .inside, spelled.more-of (pre .0) (changes .0)),
+    let known = c .before .before .before .before .before in
+    let pre = known .before .before .before .before .pre in
+    let moving = known .change .given .1 in
+    let changes = pre .3 .moves _ moving in (
+      omega (arith, pre .1 .inside, spelled.more-of (pre .1) (changes .0)),
       omega arith,
-      pre .0 .inside,
-      within-as (spelled.as-raised _ _ _ raising ∙ spelled.spelled-high _ _ _ _ (changes .0) (changes .1)) (pre .3),
+      pre .1 .inside,
+      within-as (spelled.as-renumbered _ _ _ moving ∙ spelled.spelled-moved _ _ _ _ (changes .0) (changes .1)) (pre .4),
     )
 
 same-length : tie.Need-same-length
@@ -62,8 +72,9 @@ respell-spec =
     (tie.spec
     enum-told
     shortest-requires
-    enum-told-2
-    add-numbered
+    enum-known-change
+    sub-named
+    add-named
     sub-numbered
     numbered-requires
     same-length

@@ -49,7 +49,7 @@ copy-requires c κs =
     let known = c .before .before in
     let found = known .before .before in
     let stop = rewritten.ended-of (found .stretch .ensures) (known .at .given .1) in
-    rewritten.stretch-bounds (found .before .loop .inv) (stop .0) (found .before .before .before .before .before .pre)
+    rewritten.stretch-bounds (found .before .loop .inv) (stop .0) (found .before .before .before .before .before .pre .1)
 
 same-length : tie.Need-same-length Inv-loop μ-loop
 same-length c = search needs
@@ -62,7 +62,7 @@ copy-requires-2 c κs =
     let known = c .before .before in
     let found = known .before .before in
     let stop = rewritten.halted-of (found .stretch .ensures) (known .at2 .given .1) in
-    rewritten.stretch-bounds (found .before .loop .inv) (stop .0) (found .before .before .before .before .before .pre)
+    rewritten.stretch-bounds (found .before .loop .inv) (stop .0) (found .before .before .before .before .before .pre .1)
 
 respell-requires : tie.Need-respell-requires Inv-loop μ-loop
 respell-requires c κs =
@@ -71,7 +71,7 @@ respell-requires c κs =
     let found = known .before .before in
     let stop = rewritten.halted-of (found .stretch .ensures) (known .at2 .given .1) in
     rewritten.token-bounds (found .before .loop .inv) (stop .0) (copied .copy2 .ensures) (copied .copy2 .kept .1 .1 .1 .0) (stop .1)
-    (found .before .before .before .before .before .pre)
+    (found .before .before .before .before .before .pre .0) (found .before .before .before .before .before .pre .1)
 
 loop-less : tie.Need-loop-less Inv-loop μ-loop
 loop-less c =
