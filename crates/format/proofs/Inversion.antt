@@ -12,6 +12,7 @@ use Rattle.format.specs.Syntax.{array, object, Key, Scalar, Container, r
 use Rattle.format.specs.Syntax.{write, writePairs, print}
 use Rattle.format.specs.Limits.{numberLimit, Terms, Seen, unseen}
 use Rattle.format.specs.Fits.{KeyFits, ScalarFits, ContainerFits, allowed, Sound, SoundIn, Limited, LimitedIn, IsPlan}
+use Rattle.format.specs.Canonical.{shortest}
 use Rattle.format.specs.Answer.{ok}
 use Rattle.format.specs.Read.{planForm, setting, isArray, readKey, readValue, read}
 use Rattle.format.proofs.Forms.{WritesScalar, WritesKey, WritesHead, Writing, WritingIn, Fresh, FreshIn, key-got, value-got, accepted-fits}
@@ -95,7 +96,7 @@ module _ (terms : Terms) (source : List ℕ) where
   pub key-written : (ofArray : Bool) (earlier : List Key) (before : ℕ) (s : List ℕ) (q : Key × List ℕ)
       → readKey (setting terms source) ofArray earlier before s ≡ ok q → s ≡ writeKey (q .0) (q .1)
   key-written true earlier before s q e = key-ok array earlier before s q e .text
-  key-written false earlier before s q e = key-ok (object (record { spelling = record { zeros = 0 }; text = [] })) earlier before s q e .text
+  key-written false earlier before s q e = key-ok (object (record { spelling = shortest; text = [] })) earlier before s q e .text
 
   pub value-written : (d : ℕ) (seen : Seen) (before : ℕ) (s : List ℕ) (q : Value × List ℕ) → readValue (setting terms source) d seen before s ≡ ok q
       → s ≡ write (q .0) (q .1)

@@ -5,6 +5,7 @@ use Prim.Native.Nat.{ℕ, zero, suc, _+_, _-_, _≤_}
 use native.Mathlib.Omega.{arith}
 use lib.ListN.{length, length-append}
 use Rattle.decimal.specs.Digits.{spelled}
+use Rattle.decimal.proofs.Numerals.{spelled-length}
 use Rattle.format.specs.Bytes.{byte}
 use Rattle.format.specs.Tree.{leaf, ref, branch, none, pair, TreePath, count, nodes, ordinals, paths, mapTree, mapPairs}
 use Rattle.format.specs.Syntax.{intKey, stringKey, null, bool, int, float, string, array, object, mapContainer, Spelling, Sign, unsigned, plus, minus}
@@ -84,11 +85,8 @@ number-shorter w n r t h = omega (arith, number-length shortest n r, number-leng
 int-shorter : (x : Literal) (r t : List ℕ) → length r ≤ length t → length (writeInt (shortestInt x) r) ≤ length (writeInt x t)
 int-shorter x r t h =
     let n : ℕ = x .magnitude in
-    let e : length (spelled 0 n ++ (byte ";" ∷ r)) ≤ length (spelled (x .zeros) n ++ (byte ";" ∷ t)) = omega (
-      arith,
-      number-length shortest n (byte ";" ∷ r),
-      number-length (record { zeros = x .zeros }) n (byte ";" ∷ t),
-    ) in
+    let e : length (spelled 0 n ++ (byte ";" ∷ r)) ≤ length (spelled (x .zeros) n ++ (byte ";" ∷ t)) =
+    simp (length-append, spelled-length) (omega arith) in
     omega (arith, sign-shorter (x .sign) n (spelled 0 n ++ (byte ";" ∷ r)) (spelled (x .zeros) n ++ (byte ";" ∷ t)) e)
 
 string-shorter : (q : Quoted) (r t : List ℕ) → length r ≤ length t → length (writeString (shortestQuoted q) r) ≤ length (writeString q t)

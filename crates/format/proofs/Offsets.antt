@@ -11,6 +11,7 @@ use Rattle.format.specs.Kind.{Kind, tag, hasText}
 use Rattle.format.specs.Tree.{leaf, ref, branch, none, pair, count, nodes, nodesIn, ordinals}
 use Rattle.format.specs.Syntax.{intKey, stringKey, null, bool, int, float, string, array, object, unsigned, RefKind, objectRef, variableRef, refKind, Key}
 use Rattle.format.specs.Syntax.{Scalar, Container, Value, Values, own, write, print}
+use Rattle.format.specs.Canonical.{shortest}
 use Rattle.format.specs.Table.{Node, single, keyNode, scalarNode, branchNode, targetOf, tableOf, valueOffset}
 use Rattle.format.specs.Meaning.{meaning}
 use Rattle.format.specs.Shows.{nodeAt, Shows, TextBehind, PlacedKey, PlacedScalar, PlacedContainer, Placed, PlacedIn, Says}
@@ -78,13 +79,13 @@ one-offset v ns s i u = same (print v) ns (tableOf v) (targetOf v) v 0 0 1 [] (w
 
 -- ---- two plans where the same bytes stand elsewhere too
 abbrev text : List ℕ → Value
-text t = leaf (string (record { spelling = record { zeros = 0 }; text = t }))
+text t = leaf (string (record { spelling = shortest; text = t }))
 
 abbrev at : ℕ → Value → Values → Values
 at n v ps = pair (intKey (record { sign = unsigned; zeros = 0; magnitude = n })) v ps
 
 abbrev twice : Value
-twice = branch (record { container = array; spelling = record { zeros = 0 } }) (at 0 (text (bytes "a")) (at 1 (text (bytes "a")) none))
+twice = branch (record { container = array; spelling = shortest }) (at 0 (text (bytes "a")) (at 1 (text (bytes "a")) none))
 
 pub empty-printed : print (text []) ≡ bytes "s:0:\"\";"
 unfolding write decimal decimalIn

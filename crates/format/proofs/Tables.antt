@@ -11,6 +11,7 @@ use Rattle.format.specs.Tree.{leaf, ref, branch, none, pair, TreePath, c
 use Rattle.format.specs.Tree.{mapPairs}
 use Rattle.format.specs.Syntax.{intKey, stringKey, null, bool, int, float, string, array, object, mapContainer, Literal, Quoted, Key, Scalar, Container}
 use Rattle.format.specs.Syntax.{RefKind, objectRef, variableRef, refKind, Reference, Value, Values, own, print}
+use Rattle.format.specs.Canonical.{shortest}
 use Rattle.format.specs.Keys.{integer, keyMeaning}
 use Rattle.format.specs.Fits.{IntFits, KeyFits, ScalarFits, Sound, SoundIn, Valid}
 use Rattle.format.specs.Meaning.{meaning, scalarMeaning, headMeaning, referenceMeaning}
@@ -146,7 +147,7 @@ module _ (source : List ℕ) (rows : List Node) (to : ℕ → ℕ) where
 
   -- where `env` gives the paths of the ordinals
   module _ (env : List TreePath) where
-    taking : (k : RefKind) (i n : ℕ) → 1 ≤ n → ordinalAt rows to i ≡ taken (own (record { kind = k; spelling = record { zeros = 0 }; named = 0 })) n
+    taking : (k : RefKind) (i n : ℕ) → 1 ≤ n → ordinalAt rows to i ≡ taken (own (record { kind = k; spelling = shortest; named = 0 })) n
         → Taking rows k i
     taking objectRef i n h e = omega arith
     taking variableRef i n h e = e

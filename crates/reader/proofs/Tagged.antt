@@ -129,9 +129,6 @@ key-int container b e n = rw is-int (go (eqb container (tag Kind.array)))
     go true = refl
     go false = refl
 
-pub key-is-string : (b : ℕ) → mayBeKey b ≡ true → (b ≡ tag Kind.int → ⊥) → b ≡ tag Kind.string
-key-is-string b e n = ⊎-elim (λ q. absurd (n q)) (λ o. ⊎-elim (λ q. q) (λ z. absurd z) o) (one-of (keyKinds true) b e)
-
 -- ---- the choice among the nine
 
 -- the arms of the code's match: the compiler puts their tags in the order of their numbers
