@@ -8,11 +8,11 @@ pub mod Kind  -- the nine kinds, by their tags
 pub mod Tree  -- trees of values and pairs, their nodes, ordinals and paths: syntax and meaning are both such trees
 pub mod Syntax  -- a plan's syntax, with each choice of spelling kept, and its bytes (`print`)
 pub mod Keys  -- what a key means, and when two are equal
-pub mod Limits  -- what the grammar and reading share: limits, float texts, what is seen of earlier values
+pub mod Limits  -- what the grammar and reading share: limits, a service's terms, float texts, what is seen of earlier values
 pub mod Fits  -- which syntaxes are plans (`Valid`), and which of them have room in a table (`Fits`)
 -- reading, and what is read
 pub mod Answer  -- what was read, or a refusal with its number and position
-pub mod Read  -- reading: the syntax, or the first refusal in the paper's order
+pub mod Read  -- reading: the plan's texts, and the order of refusals over any form of writing
 pub mod Table  -- the nodes of a syntax, and their words
 pub mod Meaning  -- what a plan's bytes mean (`Means`), with no word of reading
 pub mod Canonical  -- the syntax whose print is the canonical text
