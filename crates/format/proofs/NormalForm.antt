@@ -20,19 +20,12 @@ use Rattle.format.specs.Answer.{ok}
 use Rattle.format.specs.Read.{read}
 use Rattle.format.specs.Meaning.{meaning, scalarMeaning, headMeaning, referenceMeaning}
 use Rattle.format.specs.Canonical.{shortest, shortestSign, shortestInt, shortestQuoted, canonicalKey, canonicalScalar, canonicalHead, canonicalReference}
-use Rattle.format.specs.Canonical.{canonical}
+use Rattle.format.specs.Canonical.{literalOf, canonical}
 use Rattle.format.proofs.Maps.{refs-all, count-map, nodes-map, ordinals-map, paths-map, map-map, key-map, scalar-map, container-map}
 use Rattle.format.proofs.Fronts.{number-length, quoted-length}
 use Rattle.format.proofs.Printed.{read-print}
 
 -- ---- integers and texts: what they mean, and the shortest way to write that
-abbrev pub literalOf : ℤ → Literal
-literalOf (pos n) = record { sign = unsigned; zeros = 0; magnitude = n }
-literalOf (negsuc n) = record { sign = minus; zeros = 0; magnitude = suc n }
-
-abbrev pub quotedOf : List ℕ → Quoted
-quotedOf t = record { spelling = shortest; text = t }
-
 pub literal-shortest : (x : Literal) → literalOf (integer x) ≡ shortestInt x
 literal-shortest x = go (x .sign) (x .magnitude)
   where
@@ -42,7 +35,7 @@ literal-shortest x = go (x .sign) (x .magnitude)
     go minus zero = refl
     go minus (suc n) = refl
 
-literal-means : (z : ℤ) → integer (literalOf z) ≡ z
+pub literal-means : (z : ℤ) → integer (literalOf z) ≡ z
 literal-means (pos n) = refl
 literal-means (negsuc n) = refl
 

@@ -15,9 +15,10 @@ use Rattle.format.specs.Syntax.{mapKey, mapScalar, mapContainer, Contain
 use Rattle.format.specs.Keys.{integer, keyMeaning}
 use Rattle.format.specs.Fits.{Backward, BackwardIn, Valid}
 use Rattle.format.specs.Meaning.{Meaning, meaning, scalarMeaning, HeadMeaning, headMeaning, ReferenceMeaning, referenceMeaning}
-use Rattle.format.specs.Canonical.{shortest, shortestInt, shortestQuoted, canonicalKey, canonicalScalar, canonicalHead, canonicalReference, canonical}
+use Rattle.format.specs.Canonical.{shortest, shortestInt, shortestQuoted, canonicalKey, canonicalScalar, canonicalHead, canonicalReference}
+use Rattle.format.specs.Canonical.{literalOf, quotedOf, canonical}
 use Rattle.format.proofs.Maps.{Refs, RefsIn, paths-map, ordinals-map, map-map, key-map, scalar-map, container-map}
-use Rattle.format.proofs.NormalForm.{literalOf, quotedOf, literal-shortest, quotedBytes, canonical-valid, canonical-meaning}
+use Rattle.format.proofs.NormalForm.{literal-shortest, quotedBytes, canonical-valid, canonical-meaning}
 use Rattle.format.proofs.Unique.{unique}
 
 -- ---- lists

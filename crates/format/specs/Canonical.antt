@@ -1,5 +1,7 @@
 -- "Canonical text": every integer and number in shortest decimal form.
+use mathlib.Core.List.{List}
 use Prim.Native.Nat.{ℕ, zero, suc}
+use lib.IntN.{ℤ, pos, negsuc}
 use Rattle.format.specs.Tree.{mapTree}
 use Rattle.format.specs.Syntax.{Spelling, Sign, unsigned, plus, minus, Literal, Quoted, Key, Scalar, Head, Reference, Value}
 use Rattle.format.specs.Syntax.{mapKey, mapScalar, mapContainer}
@@ -21,6 +23,14 @@ shortestInt x = record { sign = shortestSign (x .sign) (x .magnitude); zeros = 0
 -- "Float texts, strings and class names are copied."
 abbrev pub shortestQuoted : Quoted → Quoted
 shortestQuoted q = record { spelling = shortest; text = q .text }
+
+-- the shortest way to write an integer, and a text
+abbrev pub literalOf : ℤ → Literal
+literalOf (pos n) = record { sign = unsigned; zeros = 0; magnitude = n }
+literalOf (negsuc n) = record { sign = minus; zeros = 0; magnitude = suc n }
+
+abbrev pub quotedOf : List ℕ → Quoted
+quotedOf t = record { spelling = shortest; text = t }
 
 abbrev pub canonicalKey : Key → Key
 canonicalKey k = mapKey shortestInt shortestQuoted k

@@ -3,7 +3,7 @@ use Prim.Native.Nat.{ℕ, suc, _+_, _-_, _*_, _/_, _^_, _≤_, _<_}
 use native.Mathlib.Nat.{add-zero}
 use native.Mathlib.Omega.{arith}
 use mathlib.Core.Path.{_≡_, refl, sym, ap, _∙_}
-use mathlib.Core.Bool.{true, false}
+use mathlib.Core.Bool.{Bool, true, false}
 use mathlib.Core.List.{List, []}
 use lib.Dec.{T}
 use lib.ListN.{length, getD, take, drop, length-drop}
@@ -16,7 +16,7 @@ use Rattle.format.specs.Table.{word}
 use Rattle.format.proofs.Keys.{equal-keys}
 use Rattle.keys.specs.declared.KeyWords.{KeyWords}
 use Rattle.keys.specs.KeyWords.{textOf, Held}
-use Rattle.keys.proofs.SameWords.{text-part}
+use Rattle.keys.proofs.SaidKeys.{text-part}
 use Rattle.key_filter.specs.Hash.{mixed, spread, halfOf, restOf, wordOf, mixedWords, mixedText, start, intHash, textHash, hashWords, hashKey}
 
 -- ---- the words of a text
@@ -152,7 +152,7 @@ pub words-int : (s : List ℕ) (holder : ℕ) (w : KeyWords) → hasText (w .tag
 unfolding hashWords
 words-int s holder w n = rw (hashWords, n)
 
-pub hash-held : (s : List ℕ) (holder : ℕ) (w : KeyWords) (k : Key) → Held s k w → hashWords s holder w ≡ hashKey holder k
+pub hash-held : {ofArray : Bool} (s : List ℕ) (holder : ℕ) (w : KeyWords) (k : Key) → Held ofArray s k w → hashWords s holder w ≡ hashKey holder k
 unfolding hashKey
 hash-held s holder w (intKey x) h = words-int s holder w (ap hasText (h .is)) ∙ ap (intHash holder) (sym (h .says))
 hash-held s holder w (stringKey q) h =

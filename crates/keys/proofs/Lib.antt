@@ -1,2 +1,3 @@
 pub mod NodeKeys
-pub mod SameWords
+pub mod SaidKeys
+pub mod Chains

@@ -1,17 +1,22 @@
-// Keys by the words of their nodes, each with the source that it stands in: the key at a node (`key_at`), and whether two are equal (`same_key`), by their
-// texts where their kind has one (`KeyWords::has_text`).
-// Takes any table, node and words, and refuses nothing: a node that the table has not is all zeros, a text that does not stand in its source is empty.
+// Keys by the words of their nodes, each with the source that it stands in: the key at a node (`key_at`), and whether a key equals one of those of the pairs
+// that stand in a table (`has_key`), which is told whether the container is an array: in an object a key is always a string, in an array it is an integer
+// where its kind has no text (`KeyWords::has_text`).
+// Takes any table, nodes and words, and refuses nothing: a node that the table has not is all zeros, a text that does not stand in its source is empty, and
+// a walk ends where the next pair would not stand in the table behind the last.
 // Reader and placing call it, key_filter takes its words. It lies below them, so that an edit of the key test proves its own layer.
 // The two sources have lifetimes of their own, as those of `bytes_at::same_bytes`: the kit's borrow checker covers no call whose two lent slices must have one.
 use bytes_at::same_bytes;
 use format::kind::Kind;
 use format::table::CONTENT;
-use format::table::INT_TAG;
+use format::table::PAIR_END;
 use format::table::SIZE;
 use format::table::WIDTH;
 ghost use mathlib.Core.Path.{_≡_};
+ghost use Prim.Native.Nat.{_-_, min};
 ghost use Rattle.format.specs.Kind.{hasText};
-ghost use Rattle.keys.specs.KeyWords.{textOf, keyWordsIn, sameWords};
+ghost use Rattle.format.specs.Keys.{sameKey, hasKey};
+ghost use Rattle.format.specs.Reading.{capacityOf};
+ghost use Rattle.keys.specs.KeyWords.{textOf, keyWordsIn, saysText, keySaid, keysSaid};
 
 // A key by words 0, 2 and 3 of its node.
 pub struct KeyWords {
@@ -70,22 +75,72 @@ pub fn key_at(table: &[u64], node: usize) -> KeyWords
     }
 }
 
-// Whether two keys are equal: two integers with one pattern, or two of a kind with a text whose bytes are the same. That an integer is told first spares
-// reading's walk a quarter of its instructions: the compiler knows the tag then.
-pub fn same_key(source: &[u8], a: KeyWords, other: &[u8], b: KeyWords) -> bool
-    ensures { λ r. ⌜ r ≡ sameWords (now (source .entry)) a (now (other .entry)) b ⌝ }
+// Whether the words of a key tell a text: in an object always, in an array where its kind has one.
+fn says_text(of_array: bool, key: KeyWords) -> bool
+    ensures { λ r. ⌜ r ≡ saysText «of_array» key ⌝ }
 {
-    if a.tag != b.tag {
+    if of_array {
+        return key.has_text();
+    }
+    true
+}
+
+// Whether two keys of one container are equal. Patterns are compared before the other's kind is looked at, so that the walk over integers seldom looks.
+fn same_key(of_array: bool, source: &[u8], a: KeyWords, other: &[u8], b: KeyWords) -> bool
+    ensures { λ r. ⌜ r ≡ sameKey (keySaid «of_array» (now (source .entry)) a) (keySaid «of_array» (now (other .entry)) b) ⌝ }
+{
+    if !says_text(of_array, a) {
+        if a.content != b.content {
+            return false;
+        }
+        return !says_text(of_array, b);
+    }
+    if !says_text(of_array, b) {
         return false;
     }
-    if a.tag == INT_TAG {
-        return a.content == b.content;
+    same_bytes(
+        text_of(source, a.content, a.size),
+        text_of(other, b.content, b.size),
+    )
+}
+
+// The last node before an end that the table has room for, or 0.
+fn last_node(table: &[u64], end: usize) -> usize
+    ensures { λ r. ⌜ r ≡ min end (capacityOf (now (table .entry))) - 1 ⌝ }
+{
+    let mut behind = table.len() / WIDTH;
+    if end < behind {
+        behind = end;
     }
-    if a.has_text() {
-        return same_bytes(
-            text_of(source, a.content, a.size),
-            text_of(other, b.content, b.size),
-        );
+    if behind == 0 {
+        return 0;
     }
-    a.content == b.content
+    behind - 1
+}
+
+// Whether a key equals one of those of the pairs that stand in the table from node `first` up to node `end`. The key may stand in another source than these.
+pub fn has_key(
+    of_array: bool,
+    source: &[u8],
+    table: &[u64],
+    first: usize,
+    end: usize,
+    other: &[u8],
+    key: KeyWords,
+) -> bool
+    ensures { λ r. ⌜ r ≡ hasKey (keySaid «of_array» (now (other .entry)) key) (keysSaid «of_array» (now (source .entry)) (now (table .entry)) first end) ⌝ }
+{
+    let last = last_node(table, end);
+    let mut i = first;
+    while i < last {
+        if same_key(of_array, other, key, source, key_at(table, i)) {
+            return true;
+        }
+        let next = table[i * WIDTH + PAIR_END] as usize;
+        if next <= i {
+            return false;
+        }
+        i = next;
+    }
+    false
 }

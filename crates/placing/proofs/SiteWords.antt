@@ -3,12 +3,13 @@ use Prim.Native.Nat.{ℕ, zero, suc, _+_, _-_, _*_, _≤_, _<_}
 use native.Mathlib.Numerals.{add-one}
 use native.Mathlib.Omega.{arith}
 use mathlib.Core.Path.{_≡_, refl, sym, ap, ap₂, _∙_, subst}
-use mathlib.Core.Bool.{Bool, true, false, not, _||_}
+use mathlib.Core.Bool.{Bool, true, false, not}
 use mathlib.Core.List.{List, [], _∷_, _++_, append-assoc}
 use lib.Dec.{eqb}
 use lib.ListN.{length, getD, take, drop, length-append, length-drop, List·getD-append}
 use lib.Seq.{getD-append-add}
 use Rattle.format.specs.Bytes.{byte}
+use Rattle.format.specs.Kind.{isTagOf, keyKinds}
 use Rattle.format.specs.Tree.{leaf, ref, branch, none, pair, count, nodes, TreePath, nodesIn, one, ordinals, ordinalsIn}
 use Rattle.format.specs.Syntax.{intKey, stringKey, array, Key, Container, Value, Values, own, writeKey, write, writePairs, print}
 use Rattle.format.specs.Keys.{hasKey}
@@ -26,11 +27,11 @@ use Rattle.format.proofs.Ordinals.{tableIn-ordinals}
 use Rattle.format.proofs.Results.{tableOf-length, flat-length}
 use Rattle.insertion.specs.Ways.{WayTo, found, inside, WayIn, first, later}
 use Rattle.insertion.proofs.SiteRows.{in-plan, site-valid, site-inside}
-use Rattle.keys.specs.KeyWords.{keyWordsAt, keyWordsIn, Held}
-use Rattle.keys.proofs.NodeKeys.{key-there}
+use Rattle.keys.specs.KeyWords.{keyWordsAt, keySaid, keysSaid, Held, Chain}
+use Rattle.keys.specs.KeyWords as chain
 use Rattle.keys.specs.declared.KeyWords.{KeyWords}
-use Rattle.keys.proofs.SameWords.{words-same}
-use Rattle.placing.specs.Words.{pairNode, carriers, GapBounds, Walks, keyAmong}
+use Rattle.keys.proofs.Chains.{said-has}
+use Rattle.placing.specs.Words.{pairNode, carriers, GapBounds, keyPresent}
 
 -- ---- the words of a list of nodes
 flat-at : (rows : List Node) (rest : List ℕ) (i w : ℕ) → i < length rows → w < width
@@ -154,14 +155,6 @@ module _ (v : Value) (t rest : List ℕ) (e : t ≡ flat (tableOf v) ++ rest) wh
       ∙ pairs-node p ps (nextOffset o k u) (suc (i + nodes u)) (n + ordinals own u) (others-in (tableOf v) (targetOf v) o i n k u ps g) (omega arith)
       (omega arith) ∙ omega arith
 
-  pairs-walk : (ps : Values) (o i n : ℕ) → In o i n ps → i + nodesIn ps ≤ nodes v → Walks t i (count ps)
-  pairs-walk none o i n g h = tt
-  pairs-walk (pair k u ps) o i n g h = (
-    omega (arith, long, nodes-some u),
-    subst (λ (m : ℕ). Walks t m (count ps)) (sym (next-word o i n k u ps g h))
-        (pairs-walk ps (nextOffset o k u) (suc (i + nodes u)) (n + ordinals own u) (others-in (tableOf v) (targetOf v) o i n k u ps g) (omega arith)),
-  )
-
   -- ---- ordinals
   rows-carry : (xs more : List Node) (i : ℕ) → drop i (tableOf v) ≡ xs ++ more → i + length xs ≤ nodes v → carriers t i (length xs) ≡ length (ordinalsOf xs)
   rows-carry [] more i f h = refl
@@ -181,14 +174,12 @@ module _ (v : Value) (t rest : List ℕ) (e : t ≡ flat (tableOf v) ++ rest) wh
       ∙ ap length (tableIn-ordinals (targetOf v) (upto p ps) o i n b) ∙ up-length n (ordinalsIn own (upto p ps)) ∙ upto-ordinals p ps
 
   -- ---- keys
-  key-stands : (i : ℕ) → i < nodes v → keyWordsIn t i ≡ keyWordsAt t i
-  key-stands i h = key-there t i (omega (arith, long, h))
-
   module _ (source : List ℕ) where
     key-held : (j : Key) (o i : ℕ) (r : List ℕ) → i < nodes v → nodeAt (tableOf v) i ≡ keyNode o i j → KeyFits j → drop o source ≡ writeKey j r
-        → Held source j (keyWordsAt t i)
+        → Held true source j (keyWordsAt t i)
     key-held (intKey x) o i r h f b d = record {
       is = row-word i 0 (keyNode o i (intKey x)) h (omega arith) f;
+      allowed = ap (isTagOf (keyKinds true)) (row-word i 0 (keyNode o i (intKey x)) h (omega arith) f);
       says = sym (row-word i 2 (keyNode o i (intKey x)) h (omega arith) f);
       fits = b;
     }
@@ -198,6 +189,7 @@ module _ (v : Value) (t rest : List ℕ) (e : t ≡ flat (tableOf v) ++ rest) wh
         let stands = quoted-text source o 115 q (59 ∷ r) d in
         record {
           is = row-word i 0 (keyNode o i (stringKey q)) h (omega arith) f;
+          allowed = ap (isTagOf (keyKinds true)) (row-word i 0 (keyNode o i (stringKey q)) h (omega arith) f);
           says = (
             sym (ap₂ (λ (m n : ℕ). take m (drop n source)) z c ∙ stands),
             omega (arith, c, z, ap length d, length-drop o source, quoted-length q (59 ∷ r), number-length (q .spelling) (length (q .text)) []),
@@ -205,19 +197,15 @@ module _ (v : Value) (t rest : List ℕ) (e : t ≡ flat (tableOf v) ++ rest) wh
           fits = b;
         }
 
-    module _ (text : List ℕ) (w : KeyWords) (k : Key) (held : Held text k w) where
-      pairs-among : (ps : Values) (o i n : ℕ) (r : List ℕ) (c : Container) (js : List Key) → In o i n ps → i + nodesIn ps ≤ nodes v
-          → drop o source ≡ writePairs ps r → SoundIn c js ps
-          → keyAmong source text w t i (count ps) ≡ hasKey k (keys ps)
-      unfolding write
-      pairs-among none o i n r c js g h d s = refl
-      pairs-among (pair j u ps) o i n r c js g h d s =
-          ap₂ _||_ (words-same text w source (keyWordsIn t i) k j held
-          (subst (Held source j) (sym (key-stands i (omega arith)))
-          (key-held j o i (write u (writePairs ps r)) (omega arith) (at-first (tableOf v) i (keyNode o i j) _ _ (g .here)) (s .0) d)))
-          (ap (λ (m : ℕ). keyAmong source text w t m (count ps)) (next-word o i n j u ps g h)
-          ∙ pairs-among ps (nextOffset o j u) (suc (i + nodes u)) (n + ordinals own u) r c (j ∷ js) (others-in (tableOf v) (targetOf v) o i n j u ps g)
-          (omega arith) (others-text source o j u (writePairs ps r) d) (s .4))
+    pairs-chain : (ps : Values) (o i n m : ℕ) (r : List ℕ) (c : Container) (js : List Key) → In o i n ps → m ≡ i + nodesIn ps → m ≤ nodes v
+        → drop o source ≡ writePairs ps r → SoundIn c js ps → Chain true source t i m (keys ps)
+    unfolding write
+    pairs-chain none o i n m r c js g f h d s = subst (λ (e : ℕ). Chain true source t i e []) (omega (arith, f)) chain.none
+    pairs-chain (pair j u ps) o i n m r c js g f h d s =
+        chain.pair (key-held j o i (write u (writePairs ps r)) (omega arith) (at-first (tableOf v) i (keyNode o i j) _ _ (g .here)) (s .0) d)
+        (next-word o i n j u ps g (omega arith)) (omega (arith, nodes-some u))
+        (pairs-chain ps (nextOffset o j u) (suc (i + nodes u)) (n + ordinals own u) m r c (j ∷ js) (others-in (tableOf v) (targetOf v) o i n j u ps g)
+        (omega arith) h (others-text source o j u (writePairs ps r) d) (s .4))
 
   -- ---- an array
   module _ (node : ℕ) (s : Site) (a : WayTo v node (s .path) (s .pairs)) where
@@ -267,16 +255,12 @@ module _ (v : Value) (t rest : List ℕ) (e : t ≡ flat (tableOf v) ++ rest) wh
         (omega (arith, site-inside v node s a)) in
         omega (arith, c, in-plan v node s a .new p)
 
-    pub keys-walk : Walks t (node + 1) (count (s .pairs))
-    keys-walk =
-        subst (λ (m : ℕ). Walks t m (count (s .pairs))) (sym (add-one node))
-        (pairs-walk (s .pairs) (in-plan v node s a .offset) (suc node) (suc (in-plan v node s a .ordinal)) array-pairs (omega (arith, site-inside v node s a)))
-
-    pub key-among : Valid v → (source : List ℕ) → source ≡ print v → (text : List ℕ) (w : KeyWords) (k : Key) → Held text k w
-        → keyAmong source text w t (node + 1) (count (s .pairs)) ≡ hasKey k (keys (s .pairs))
-    key-among f source d text w k held =
-        ap (λ (m : ℕ). keyAmong source text w t m (count (s .pairs))) (add-one node)
-        ∙ pairs-among source text w k held (s .pairs) (in-plan v node s a .offset) (suc node) (suc (in-plan v node s a .ordinal))
-        (byte "}" ∷ in-plan v node s a .after) array []
-        array-pairs (omega (arith, site-inside v node s a)) (ap (drop (in-plan v node s a .offset)) d ∙ in-plan v node s a .text)
-        (site-valid v node s f a .sound)
+    pub key-present : Valid v → (source : List ℕ) → source ≡ print v → (text : List ℕ) (w : KeyWords) (k : Key) → Held true text k w
+        → keyPresent source text w t node ≡ hasKey k (keys (s .pairs))
+    unfolding keyPresent
+    key-present f source d text w k held =
+        ap₂ (λ (i n : ℕ). hasKey (keySaid true text w) (keysSaid true source t i n)) (add-one node) (array-word 5 (omega arith))
+        ∙ said-has text w k (omega (arith, long, site-inside v node s a)) held
+        (pairs-chain source (s .pairs) (in-plan v node s a .offset) (suc node) (suc (in-plan v node s a .ordinal)) (node + suc (nodesIn (s .pairs)))
+        (byte "}" ∷ in-plan v node s a .after) array [] array-pairs (omega arith) (omega (arith, site-inside v node s a))
+        (ap (drop (in-plan v node s a .offset)) d ∙ in-plan v node s a .text) (site-valid v node s f a .sound))

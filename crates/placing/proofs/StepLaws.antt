@@ -16,7 +16,7 @@ use Rattle.format.specs.Limits.{depthLimit}
 use Rattle.format.specs.Answer.{Answer, ok, refused}
 use Rattle.format.specs.Table.{Node, width, wordAt, tagWord, flat, tableOf}
 use Rattle.format.specs.Shows.{nodeAt}
-use Rattle.format.specs.Reading.{termsOf, termsOf, capacityOf}
+use Rattle.format.specs.Reading.{capacityOf, termsOf}
 use Rattle.format.specs.Edit.{keys, upto, newOrdinal}
 use Rattle.format.specs.Writing.{Site, arrayAt}
 use Rattle.format.proofs.Results.{flat-length, tableOf-length}
@@ -27,7 +27,7 @@ use Rattle.insertion.proofs.Steps.{AtArray, AtPlace, WithPair, WithNewKey, With
 use Rattle.insertion.proofs.Steps.{noNodes, row-step, equal-key, has-equal}
 use Rattle.keys.specs.KeyWords.{Held}
 use Rattle.keys.specs.declared.KeyWords.{KeyWords}
-use Rattle.placing.specs.Words.{arrayWords, GapBounds, gapWords, pairNode, carriers, Walks, keyAmong}
+use Rattle.placing.specs.Words.{arrayWords, GapBounds, gapWords, pairNode, carriers, keyPresent}
 use Rattle.placing.specs.PairTexts.{pairWords}
 use Rattle.placing.specs.Locating.{spotFor}
 use Rattle.placing.specs.Placing.{Given}
@@ -160,28 +160,26 @@ module _ {s t : List ℕ} {n : ℕ} {g : Given s t n} {node place : ℕ} {key va
 
   -- ---- 9
 
-  pub walks : Walks t (node + 1) m
-  walks = subst (Walks t (node + 1)) (sym (f .array .counted)) (words.keys-walk (g .value) t (g .rest) (g .table) node site (f .array .at))
+  pub array-inside : node * width + width ≤ length t
+  array-inside = omega (arith, node-low, table-room g)
 
-  held : Held key k w
-  held = subst (Held key k) (sym (f .pair .keyed .words)) (key-held key k (f .pair .keyed .written) (f .pair .keyed .fits))
+  held : Held true key k w
+  held = subst (Held true key k) (sym (f .pair .keyed .words)) (key-held key k (f .pair .keyed .written) (f .pair .keyed .fits))
 
-  among : keyAmong s key w t (node + 1) m ≡ hasKey k (keys qs)
-  among =
-      ap (keyAmong s key w t (node + 1)) (f .array .counted)
-      ∙ words.key-among (g .value) t (g .rest) (g .table) node site (f .array .at) (g .plan .fits .valid) s (g .plan .printed) key w k held
+  present : keyPresent s key w t node ≡ hasKey k (keys qs)
+  present = words.key-present (g .value) t (g .rest) (g .table) node site (f .array .at) (g .plan .fits .valid) s (g .plan .printed) key w k held
 
-  pub refuses-9 : not (keyAmong s key w t (node + 1) m) ≡ false → RefusedWith g node place key value 9 0
+  pub refuses-9 : not (keyPresent s key w t node) ≡ false → RefusedWith g node place key value 9 0
   refuses-9 e =
-      let q = equal-key k (keys qs) (T-of (sym among ∙ not-false _ e)) in
+      let q = equal-key k (keys qs) (T-of (sym present ∙ not-false _ e)) in
       refuses g node place key value 9 0 (sameKeyed (g .value) site k x with-pair (q .0) (q .1) (q .2))
 
   abbrev pub Fresh : Type 0
-  Fresh = not (keyAmong s key w t (node + 1) m) ≡ true
+  Fresh = not (keyPresent s key w t node) ≡ true
 
   module _ (fresh : Fresh) where
     with-new-key : WithNewKey (termsOf t) s node place key value (g .value) site k x
-    with-new-key = record { pair = with-pair; new = λ j i e. T-not (hasKey k (keys qs)) (T-of (ap not (sym among) ∙ fresh)) (has-equal k j (keys qs) i e) }
+    with-new-key = record { pair = with-pair; new = λ j i e. T-not (hasKey k (keys qs)) (T-of (ap not (sym present) ∙ fresh)) (has-equal k j (keys qs) i e) }
 
     -- ---- 8
 

@@ -127,12 +127,13 @@ key-some s g = go (g .key) (g .written)
 
 -- ---- the key's words say it
 
-pub key-held : (s : List ℕ) (k : Key) → s ≡ writeKey k [] → KeyFits k → Held s k (textWords k)
-key-held s (intKey y) t f = record { is = refl; says = refl; fits = f }
+pub key-held : (s : List ℕ) (k : Key) → s ≡ writeKey k [] → KeyFits k → Held true s k (textWords k)
+key-held s (intKey y) t f = record { is = refl; allowed = refl; says = refl; fits = f }
 key-held s (stringKey q) t f =
     let stands = quoted-text s 0 115 q (59 ∷ []) t in
     record {
       is = refl;
+      allowed = refl;
       says = (sym stands, omega (arith, ap length t, quoted-length q (59 ∷ []), number-length (q .spelling) (length (q .text)) []));
       fits = f;
     }

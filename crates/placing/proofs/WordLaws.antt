@@ -1,17 +1,17 @@
 -- Laws of the words that inserting takes from the table. Assumes nothing.
-use Prim.Native.Nat.{ℕ, zero, suc, _+_, _-_, _*_, _≤_, _<_}
+use Prim.Native.Nat.{ℕ, _+_, _-_, _*_, _≤_, _<_}
 use native.Mathlib.Nat.{add-zero}
 use native.Mathlib.Numerals.{add-one}
 use native.Mathlib.Omega.{arith}
-use mathlib.Core.Path.{_≡_, refl, sym, ap, ap₂, _∙_, subst}
-use mathlib.Core.Bool.{Bool, true, false, not, _&&_, _||_, true≢false}
+use mathlib.Core.Path.{_≡_, refl, sym, ap, ap₂, _∙_}
+use mathlib.Core.Bool.{Bool, true, false, not, _&&_, true≢false}
 use mathlib.Core.List.{List, [], _∷_}
 use mathlib.Core.Logic.{⊎-elim}
 use types.Run.{OneOf}
 use denote.Enum.Declared.{tagOf}
 use Rattle.placing.proofs.steps.Check as check
 use lib.Dec.{eqb, ltb, leb, ltb→lt, eqb→eq}
-use lib.ListN.{length, getD}
+use lib.ListN.{getD}
 use borrow.Author.Tests.{eq-eqb, ne-eqb, lt-ltb, le-ltb, le-leb, lt-leb, leb-true, leb-false}
 use Rattle.decimal.proofs.Decide.{T-of, and-left, and-right}
 use Rattle.format.specs.Kind.{Kind, tag}
@@ -19,11 +19,9 @@ use Rattle.format.specs.Answer.{ok, refused, require}
 use Rattle.format.specs.Tree.{one}
 use Rattle.format.specs.Table.{width, wordAt, tagWord, ordinalWord, linkWord, pairEnd}
 use Rattle.format.proofs.Answers.{not-both, test-passed, test-failed}
-use Rattle.keys.specs.KeyWords.{keyWordsIn, sameWords}
-use Rattle.keys.specs.declared.KeyWords.{KeyWords}
 use Rattle.placing.specs.declared.steps.Check.{Check}
 use Rattle.placing.specs.Checks.{checkAnswer}
-use Rattle.placing.specs.Words.{ArrayWords, arrayWords, pairNode, carriers, GapWords, gapWords, Walks, keyAmong}
+use Rattle.placing.specs.Words.{ArrayWords, arrayWords, pairNode, carriers, GapWords, gapWords}
 
 pub word-first : (t : List ℕ) (i : ℕ) → getD t (i * width) 0 ≡ wordAt t i tagWord
 word-first t i = ap (λ (n : ℕ). getD t n 0) (sym (add-zero (i * width)))
@@ -139,39 +137,3 @@ module _ (t : List ℕ) (i : ℕ) where
 
   pub carries-none : (n taken : ℕ) → taken ≡ carriers t i n → wordAt t (i + n) ordinalWord ≡ 0 → taken ≡ carriers t i (n + 1)
   carries-none n taken e h = carried-next n taken _ (eq-eqb (wordAt t (i + n) ordinalWord) 0 h) (omega (arith, e))
-
--- ---- pairs walked for their keys
-
-pub walks-first : (t : List ℕ) (i n : ℕ) → 0 < n → Walks t i n → i * width + pairEnd < length t
-walks-first t i zero h w = absurd (omega arith)
-walks-first t i (suc n) h w = w .0
-
-pub walks-next : (t : List ℕ) (i n : ℕ) → 0 < n → Walks t i n → Walks t (wordAt t i pairEnd) (n - 1)
-walks-next t i zero h w = absurd (omega arith)
-walks-next t i (suc n) h w = let e : suc n - 1 ≡ n = omega arith in subst (Walks t (wordAt t i pairEnd)) (sym e) (w .1)
-
-module _ (s k : List ℕ) (w : KeyWords) (t : List ℕ) where
-  pub among-found : (i n : ℕ) → 0 < n → sameWords k w s (keyWordsIn t i) ≡ true → keyAmong s k w t i n ≡ true
-  among-found i zero h e = absurd (omega arith)
-  among-found i (suc n) h e = ap (λ (b : Bool). b || keyAmong s k w t (wordAt t i pairEnd) n) e
-
-  pub among-next : (i n : ℕ) → 0 < n → sameWords k w s (keyWordsIn t i) ≡ false → keyAmong s k w t i n ≡ keyAmong s k w t (wordAt t i pairEnd) (n - 1)
-  among-next i zero h e = absurd (omega arith)
-  among-next i (suc n) h e =
-      let f : n ≡ suc n - 1 = omega arith in
-      ap (λ (b : Bool). b || keyAmong s k w t (wordAt t i pairEnd) n) e ∙ ap (keyAmong s k w t (wordAt t i pairEnd)) f
-
-  -- the pairs that are left decide
-  pub record Walking (first count node left : ℕ) : Type 0 where
-    pub walks : Walks t node left
-    pub same : keyAmong s k w t first count ≡ keyAmong s k w t node left
-
-  module _ {first count node left : ℕ} (g : Walking first count node left) where
-    pub walking-found : 0 < left → sameWords k w s (keyWordsIn t node) ≡ true → not (keyAmong s k w t first count) ≡ false
-    walking-found h e = ap not (g .same ∙ among-found node left h e)
-
-    pub walking-more : 0 < left → sameWords k w s (keyWordsIn t node) ≡ false → Walking first count (wordAt t node pairEnd) (left - 1)
-    walking-more h e = record { walks = walks-next t node left h (g .walks); same = g .same ∙ among-next node left h e }
-
-    pub walking-all : left ≤ 0 → not (keyAmong s k w t first count) ≡ true
-    walking-all h = let e : left ≡ 0 = omega arith in ap not (g .same ∙ ap (keyAmong s k w t node) e)

@@ -1,14 +1,15 @@
 -- What inserting takes from the table of the plan that was read, by its words.
 use mathlib.Core.List.{List}
-use mathlib.Core.Bool.{Bool, false, not, _&&_, _||_}
+use mathlib.Core.Bool.{Bool, true, not, _&&_}
 use Prim.Native.Nat.{ℕ, zero, suc, _+_, _-_, _*_, _≤_, _<_}
 use lib.Dec.{eqb, ltb, leb}
 use lib.ListN.{length}
 use Rattle.format.specs.Kind.{Kind, tag}
 use Rattle.format.specs.Tree.{one}
 use Rattle.format.specs.Answer.{Answer, ok, refused, _>>=_, require}
-use Rattle.format.specs.Table.{width, wordAt, tagWord, ordinalWord, linkWord, pairEnd}
-use Rattle.keys.specs.KeyWords.{keyWordsIn, sameWords}
+use Rattle.format.specs.Keys.{hasKey}
+use Rattle.format.specs.Table.{width, wordAt, tagWord, ordinalWord, linkWord, endWord, pairEnd}
+use Rattle.keys.specs.KeyWords.{keySaid, keysSaid}
 use Rattle.keys.specs.declared.KeyWords.{KeyWords}
 use Rattle.placing.specs.declared.target.Target.{Target}
 use Rattle.placing.specs.declared.target.Gap.{Gap}
@@ -75,12 +76,6 @@ gapWords t i n o p = do
 
 -- ---- 9
 
--- each of so many pairs from node i on has its words
-abbrev pub Walks : List ℕ → (i count : ℕ) → Type 0
-Walks t i zero = Unit {0}
-Walks t i (suc n) = (i * width + pairEnd < length t) × Walks t (wordAt t i pairEnd) n
-
--- whether a key, whose words and text are known, is equal to a key of so many pairs
-abbrev pub keyAmong : (source key : List ℕ) → KeyWords → (table : List ℕ) → (i count : ℕ) → Bool
-keyAmong s k w t i zero = false
-keyAmong s k w t i (suc n) = sameWords k w s (keyWordsIn t i) || keyAmong s k w t (wordAt t i pairEnd) n
+-- whether a key, whose words and text are known, is equal to a key of the array at a node: its pairs stand behind it, up to its end
+unfoldable pub keyPresent : (source key : List ℕ) → KeyWords → (table : List ℕ) → (node : ℕ) → Bool
+keyPresent s k w t i = hasKey (keySaid true k w) (keysSaid true s t (i + 1) (wordAt t i endWord))

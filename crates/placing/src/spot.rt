@@ -95,7 +95,7 @@ pub(crate) fn find_spot(
         };
     };
     let first = array_node + 1;
-    let fresh = new_key(source, table, first, count, key, words);
+    let fresh = new_key(source, table, array_node, key, words);
     let Check::Passed = fresh else {
         return Placing::Refused {
             code: KEY_REPEATED,

@@ -1,17 +1,18 @@
 // The steps of inserting that only pass or fail: 9, 8 and 7.
 use format::limits::DEPTH_LIMIT;
-use format::table::PAIR_END;
+use format::table::END;
 use format::table::WIDTH;
 use keys::KeyWords;
-use keys::key_at;
-use keys::same_key;
+use keys::has_key;
 ghost use mathlib.Core.Path.{_≡_};
 ghost use mathlib.Core.Bool.{not};
-ghost use Prim.Native.Nat.{suc, _+_, _*_};
+ghost use Prim.Native.Nat.{suc, _+_, _*_, _≤_};
 ghost use lib.Dec.{leb, ltb};
+ghost use lib.ListN.{length};
 ghost use Rattle.format.specs.Answer.{require};
 ghost use Rattle.format.specs.Limits.{depthLimit};
-ghost use Rattle.placing.specs.Words.{keyAmong, Walks};
+ghost use Rattle.format.specs.Table.{width};
+ghost use Rattle.placing.specs.Words.{keyPresent};
 ghost use Rattle.placing.specs.Checks.{checkAnswer};
 
 // What such a step answers: it passes, or one of 9, 8 and 7 holds.
@@ -22,26 +23,20 @@ pub enum Check {
     TableFull,
 }
 
-// 9, "new key present": no key of so many pairs, which stand from node `first` on, is equal to the new one.
+// 9, "new key present": no key of the array at a node is equal to the new one.
 pub(crate) fn new_key(
     source: &[u8],
     table: &[u64],
-    first: usize,
-    count: u64,
+    array_node: usize,
     key: &[u8],
     words: KeyWords,
 ) -> Check
-    requires { ⌜ Walks (now table) first count ⌝ }
-    ensures { λ r. ⌜ checkAnswer r ≡ require (not (keyAmong (now (source .entry)) (now (key .entry)) words (now (table .entry)) first count)) 9 0 ⌝ }
+    requires { ⌜ «array_node» * width + width ≤ length (now table) ⌝ }
+    ensures { λ r. ⌜ checkAnswer r ≡ require (not (keyPresent (now (source .entry)) (now (key .entry)) words (now (table .entry)) «array_node»)) 9 0 ⌝ }
 {
-    let mut node = first;
-    let mut left = count;
-    while 0 < left {
-        if same_key(key, words, source, key_at(table, node)) {
-            return Check::KeyPresent;
-        }
-        node = table[node * WIDTH + PAIR_END] as usize;
-        left -= 1;
+    let end = table[array_node * WIDTH + END] as usize;
+    if has_key(true, source, table, array_node + 1, end, key, words) {
+        return Check::KeyPresent;
     }
     Check::Passed
 }

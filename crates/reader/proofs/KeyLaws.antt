@@ -2,7 +2,7 @@
 use Prim.Native.Nat.{ℕ, _+_, _*_, _≤_, _<_}
 use native.Mathlib.Omega.{arith}
 use mathlib.Core.Path.{_≡_, refl, sym, ap, _∙_, subst}
-use mathlib.Core.Bool.{Bool, true, false, _||_}
+use mathlib.Core.Bool.{Bool, true, false}
 use mathlib.Core.List.{List, [], _∷_, _++_}
 use lib.Dec.{eqb}
 use lib.ListN.{length}
@@ -15,38 +15,30 @@ use Rattle.format.specs.Fits.{KeyFits}
 use Rattle.format.specs.Table.{width, wordAt, pairEnd, word}
 use Rattle.format.proofs.Words.{same-word}
 use Rattle.keys.specs.declared.KeyWords.{KeyWords}
-use Rattle.keys.specs.KeyWords.{keyWordsAt, keyWordsIn, sameWords, Held}
+use Rattle.keys.specs.KeyWords.{keyWordsAt, keyWordsIn, keySaid, keysSaid, Held, Chain, none, pair}
 use Rattle.keys.proofs.NodeKeys.{key-there}
-use Rattle.keys.proofs.SameWords.{words-same}
+use Rattle.keys.proofs.Chains.{chain-le, said-has}
 use Rattle.key_filter.specs.Hash.{hashWords, hashKey}
 use Rattle.key_filter.specs.Filter.{marked, Entered, Grows, AllMarked}
 use Rattle.key_filter.proofs.Hashing.{hash-held}
 use Rattle.key_filter.proofs.Marking.{grows-none, grows-on, entered-grows, entered-marked, all-grow, all-snoc, all-none, new-key}
 use Rattle.reader.specs.declared.seen.Seen.{Seen}
-use Rattle.reader.specs.KeysSeen.{rank, keyOr, Chain, none, pair, Walk, KeyUnder, Under, Known, unmarkedFrom, above, rises, next, MarkedAll, Tested}
+use Rattle.reader.specs.KeysSeen.{rank, keyOr, Walk, KeyUnder, Under, Known, unmarkedFrom, above, rises, next, MarkedAll, Tested}
 
 -- ---- pairs in the table
 
-pub chain-le : {s t : List ℕ} {i n : ℕ} {ks : List Key} → Chain s t i n ks → i ≤ n
-chain-le none = omega arith
-chain-le (pair h e l c) = let q = chain-le c in omega arith
-
-chain-end : {s t : List ℕ} {i n : ℕ} {ks : List Key} (k : Key) → Chain s t i n ks → n ≤ i → hasKey k ks ≡ false
-chain-end k none h = refl
-chain-end k (pair p e o q) h = let z = chain-le q in absurd (omega arith)
-
-record Stepped (s t : List ℕ) (i n : ℕ) (ks : List Key) : Type 0 where
+record Stepped (o : Bool) (s t : List ℕ) (i n : ℕ) (ks : List Key) : Type 0 where
   key : Key
   rest : List Key
   is : ks ≡ key ∷ rest
-  held : Held s key (keyWordsAt t i)
+  held : Held o s key (keyWordsAt t i)
   on : i + 1 < wordAt t i pairEnd
-  chain : Chain s t (wordAt t i pairEnd) n rest
+  chain : Chain o s t (wordAt t i pairEnd) n rest
 
-stepped : {s t : List ℕ} {i n : ℕ} {ks : List Key} → Chain s t i n ks → i < n → Stepped s t i n ks
+stepped : {o : Bool} {s t : List ℕ} {i n : ℕ} {ks : List Key} → Chain o s t i n ks → i < n → Stepped o s t i n ks
 stepped {n = n} none h = absurd (omega arith)
-stepped {s = s} {t = t} {n = n} (pair {i = i} {k = k} {ks = ks} h e l c) lt =
-    record { key = k; rest = ks; is = refl; held = h; on = omega arith; chain = subst (λ (x : ℕ). Chain s t x n ks) (sym e) c }
+stepped {o = o} {s = s} {t = t} {n = n} (pair {i = i} {k = k} {ks = ks} h e l c) lt =
+    record { key = k; rest = ks; is = refl; held = h; on = omega arith; chain = subst (λ (x : ℕ). Chain o s t x n ks) (sym e) c }
 
 -- the pair at node i ends behind it, and not behind the last, which ends at n
 abbrev pub PairEnds : List ℕ → (i n : ℕ) → Type 0
@@ -58,48 +50,6 @@ walk-ends a lt = let step = stepped (a .chain) lt in (step .on, chain-le (step .
 -- so the table has its key
 pub ends-key : (t : List ℕ) (i n : ℕ) → PairEnds t i n → n * width ≤ length t → keyWordsIn t i ≡ keyWordsAt t i
 ends-key t i n e h = key-there t i (omega (arith, e, h))
-
--- the keys that are left to compare
-record Rest (s t : List ℕ) (i n : ℕ) (k : Key) (all : List Key) : Type 0 where
-  keys : List Key
-  chain : Chain s t i n keys
-  same : hasKey k all ≡ hasKey k keys
-
-pub record KeysLeft (s t : List ℕ) (first n : ℕ) (w : KeyWords) (i : ℕ) : Type 0 where
-  pub walk : Walk s t i n
-  left : (k : Key) (ks : List Key) → Held s k w → Chain s t first n ks → Rest s t i n k ks
-
-module _ {s t : List ℕ} {first n : ℕ} {w : KeyWords} where
-  pub left-none : Walk s t first n → KeysLeft s t first n w first
-  left-none a = record { walk = a; left = λ k ks h c. record { keys = ks; chain = c; same = refl } }
-
-  module _ {i : ℕ} (l : KeysLeft s t first n w i) (lt : i < n) where
-    module _ (r : Bool) (e : r ≡ sameWords s w s (keyWordsAt t i)) where
-      decided : (j k : Key) → Held s j (keyWordsAt t i) → Held s k w → r ≡ sameKey k j
-      decided j k h g = e ∙ words-same s w s (keyWordsAt t i) k j g h
-
-      pub left-found : r ≡ true → (k : Key) (ks : List Key) → Held s k w → Chain s t first n ks → true ≡ hasKey k ks
-      left-found q k ks h c =
-          let x = l .left k ks h c in
-          let p = stepped (x .chain) lt in
-          sym (x .same ∙ ap (hasKey k) (p .is) ∙ ap (λ (b : Bool). b || hasKey k (p .rest)) (sym (decided (p .key) k (p .held) h) ∙ q))
-
-      pub left-more : r ≡ false → KeysLeft s t first n w (wordAt t i pairEnd)
-      left-more q =
-          record {
-            walk = (let p = stepped (l .walk .chain) lt in record { keys = p .rest; chain = p .chain });
-            left = λ k ks h c.
-                let x = l .left k ks h c in
-                let p = stepped (x .chain) lt in
-                record {
-                  keys = p .rest;
-                  chain = p .chain;
-                  same = x .same ∙ ap (hasKey k) (p .is) ∙ ap (λ (b : Bool). b || hasKey k (p .rest)) (sym (decided (p .key) k (p .held) h) ∙ q);
-                };
-          }
-
-  pub left-end : {i : ℕ} → KeysLeft s t first n w i → n ≤ i → (k : Key) (ks : List Key) → Held s k w → Chain s t first n ks → false ≡ hasKey k ks
-  left-end {i} l h k ks g c = let x = l .left k ks g c in sym (x .same ∙ chain-end k (x .chain) h)
 
 -- ---- marking them
 
@@ -115,9 +65,9 @@ unfolding keyOr
 or-behind t i n w l = rw (keyOr, le-ltb i n l)
 
 -- what is left to mark
-record Unmarked (s t m : List ℕ) (first i n : ℕ) (all : List Key) : Type 0 where
+record Unmarked (o : Bool) (s t m : List ℕ) (first i n : ℕ) (all : List Key) : Type 0 where
   keys : List Key
-  chain : Chain s t i n keys
+  chain : Chain o s t i n keys
   rest : (m′ : List ℕ) → Grows m m′ → AllMarked m′ first keys → AllMarked m′ first all
 
 -- marking goes on at node i, from node b on
@@ -125,16 +75,16 @@ pub record Marking (s t m₀ m : List ℕ) (first n b i : ℕ) : Type 0 where
   pub walk : Walk s t i n
   pub grows : Grows m₀ m
   pub long : length m ≡ length m₀
-  left : (ks : List Key) → Chain s t b n ks → Unmarked s t m first i n ks
+  left : (o : Bool) (ks : List Key) → Chain o s t b n ks → Unmarked o s t m first i n ks
 
-none-left : {s t : List ℕ} {i n : ℕ} {ks : List Key} (m : List ℕ) (first : ℕ) → Chain s t i n ks → n ≤ i → AllMarked m first ks
+none-left : {o : Bool} {s t : List ℕ} {i n : ℕ} {ks : List Key} (m : List ℕ) (first : ℕ) → Chain o s t i n ks → n ≤ i → AllMarked m first ks
 none-left m first none h = tt
 none-left m first (pair p e o q) h = let z = chain-le q in absurd (omega arith)
 
 walk-from : (s t : List ℕ) (first n : ℕ) (h : Seen) → Walk s t first n → Walk s t (unmarkedFrom h first n) n
 walk-from s t first n Seen.Nothing a = a
 walk-from s t first n (Seen.Upto top) a = a
-walk-from s t first n Seen.Marked a = record { keys = []; chain = none }
+walk-from s t first n Seen.Marked a = record { ofArray = a .ofArray; keys = []; chain = none }
 
 pub marking-none : (s t m₀ : List ℕ) (first n b : ℕ) (h : Seen) → b ≡ unmarkedFrom h first n → Walk s t first n → Marking s t m₀ m₀ first n b b
 marking-none s t m₀ first n b h e a =
@@ -142,13 +92,13 @@ marking-none s t m₀ first n b h e a =
       walk = subst (λ (i : ℕ). Walk s t i n) (sym e) (walk-from s t first n h a);
       grows = grows-none m₀;
       long = refl;
-      left = λ ks c. record { keys = ks; chain = c; rest = λ m′ g a. a };
+      left = λ o ks c. record { keys = ks; chain = c; rest = λ m′ g a. a };
     }
 
 module _ {s t m₀ m : List ℕ} {first n b i : ℕ} (l : Marking s t m₀ m first n b i) where
   -- the key at hand is entered
   module _ (m₁ : List ℕ) (hash : ℕ) (r : Bool) (w w′ : KeyWords) (e : w ≡ keyOr t i n w′) (q : hash ≡ hashWords s first w) (d : Entered m m₁ hash r) where
-    module _ (v : KeyWords) (is : keyOr t i n w′ ≡ v) (k : Key) (held : Held s k v) where
+    module _ {o : Bool} (v : KeyWords) (is : keyOr t i n w′ ≡ v) (k : Key) (held : Held o s k v) where
       hash-is : hash ≡ hashKey first k
       hash-is = q ∙ ap (hashWords s first) (e ∙ is) ∙ hash-held s first v k held
 
@@ -159,13 +109,13 @@ module _ {s t m₀ m : List ℕ} {first n b i : ℕ} (l : Marking s t m₀ m fir
     grown = grows-on (l .grows) (entered-grows d)
 
     pub marking-more : i < n → length m₁ ≡ length m → Marking s t m₀ m₁ first n b (wordAt t i pairEnd)
-    marking-more lt o =
+    marking-more lt size =
         record {
-          walk = (let p = stepped (l .walk .chain) lt in record { keys = p .rest; chain = p .chain });
+          walk = (let p = stepped (l .walk .chain) lt in record { ofArray = l .walk .ofArray; keys = p .rest; chain = p .chain });
           grows = grown;
-          long = o ∙ l .long;
-          left = λ ks c.
-              let x = l .left ks c in
+          long = size ∙ l .long;
+          left = λ o ks c.
+              let x = l .left o ks c in
               let p = stepped (x .chain) lt in
               record {
                 keys = p .rest;
@@ -180,44 +130,44 @@ module _ {s t m₀ m : List ℕ} {first n b i : ℕ} (l : Marking s t m₀ m fir
     marking-end le h f =
         record {
           grows = grown;
-          all = λ k ks g c u. all-snoc m₁ first ks k (earlier h f m₁ (entered-grows d) ks c u) (own w′ (or-behind t i n w′ le) k g);
-          new = λ z k ks g c u.
-              new-key m first k ks (ap (marked m) (sym (hash-is w′ (or-behind t i n w′ le) k g)) ∙ sym (d .answer) ∙ z) (earlier h f m (grows-none m) ks c u);
+          all = λ o k ks g c u. all-snoc m₁ first ks k (earlier h f m₁ (entered-grows d) o ks c u) (own w′ (or-behind t i n w′ le) k g);
+          new = λ z o k ks g c u.
+              new-key m first k ks (ap (marked m) (sym (hash-is w′ (or-behind t i n w′ le) k g)) ∙ sym (d .answer) ∙ z) (earlier h f m (grows-none m) o ks c u);
         }
       where
-        from : (m′ : List ℕ) → Grows m m′ → (ks : List Key) → Chain s t b n ks → AllMarked m′ first ks
-        from m′ g ks c = let x = l .left ks c in x .rest m′ g (none-left m′ first (x .chain) le)
+        from : (m′ : List ℕ) → Grows m m′ → (o : Bool) (ks : List Key) → Chain o s t b n ks → AllMarked m′ first ks
+        from m′ g o ks c = let x = l .left o ks c in x .rest m′ g (none-left m′ first (x .chain) le)
 
-        earlier : (h : Seen) → b ≡ unmarkedFrom h first n → (m′ : List ℕ) → Grows m m′ → (ks : List Key) → Chain s t first n ks → Known h m₀ first ks
-            → AllMarked m′ first ks
-        earlier Seen.Nothing f m′ g ks c u = from m′ g ks (subst (λ (j : ℕ). Chain s t j n ks) (sym f) c)
-        earlier (Seen.Upto top) f m′ g ks c u = from m′ g ks (subst (λ (j : ℕ). Chain s t j n ks) (sym f) c)
-        earlier Seen.Marked f m′ g ks c u = all-grow m₀ m′ first ks (grows-on (l .grows) g) u
+        earlier : (h : Seen) → b ≡ unmarkedFrom h first n → (m′ : List ℕ) → Grows m m′ → (o : Bool) (ks : List Key) → Chain o s t first n ks
+            → Known h m₀ first ks → AllMarked m′ first ks
+        earlier Seen.Nothing f m′ g o ks c u = from m′ g o ks (subst (λ (j : ℕ). Chain o s t j n ks) (sym f) c)
+        earlier (Seen.Upto top) f m′ g o ks c u = from m′ g o ks (subst (λ (j : ℕ). Chain o s t j n ks) (sym f) c)
+        earlier Seen.Marked f m′ g o ks c u = all-grow m₀ m′ first ks (grows-on (l .grows) g) u
 
 -- ---- integers above all earlier ones
 
-int-tag : {s : List ℕ} {q : Quoted} {w : KeyWords} → Held s (stringKey q) w → w .tag ≡ tag Kind.int → ⊥
+int-tag : {o : Bool} {s : List ℕ} {q : Quoted} {w : KeyWords} → Held o s (stringKey q) w → w .tag ≡ tag Kind.int → ⊥
 int-tag h e = let q = h .is in omega arith
 
-higher-key : (s : List ℕ) (k j : Key) (w : KeyWords) (top : ℕ) → Held s k w → w .tag ≡ tag Kind.int → top < rank (w .content) → KeyFits j → KeyUnder top j
-    → sameKey k j ≡ false
+higher-key : {o : Bool} (s : List ℕ) (k j : Key) (w : KeyWords) (top : ℕ) → Held o s k w → w .tag ≡ tag Kind.int → top < rank (w .content) → KeyFits j
+    → KeyUnder top j → sameKey k j ≡ false
 higher-key s (stringKey q) j w top h e a f u = absurd (int-tag h e)
 higher-key s (intKey x) (stringKey q) w top h e a f u = refl
 higher-key s (intKey x) (intKey y) w top h e a f u =
     same-word x y (h .fits) f
     ∙ ne-eqb (word (integer x)) (word (integer y)) (λ q. omega (arith, a, u, ap rank (sym q ∙ h .says)))
 
-higher-keys : {s t : List ℕ} {i n : ℕ} {ks : List Key} (k : Key) (w : KeyWords) (top : ℕ) → Held s k w → w .tag ≡ tag Kind.int → top < rank (w .content)
-    → Chain s t i n ks → Under top ks → false ≡ hasKey k ks
+higher-keys : {o : Bool} {s t : List ℕ} {i n : ℕ} {ks : List Key} (k : Key) (w : KeyWords) (top : ℕ) → Held o s k w → w .tag ≡ tag Kind.int
+    → top < rank (w .content) → Chain o s t i n ks → Under top ks → false ≡ hasKey k ks
 higher-keys k w top h e a none u = refl
-higher-keys {s} k w top h e a (pair {k = j} {ks = ks} g b o c) u = rw (higher-key s k j w top h e a (g .fits) (u .0)) (higher-keys k w top h e a c (u .1))
+higher-keys {s = s} k w top h e a (pair {k = j} {ks = ks} g b l c) u = rw (higher-key s k j w top h e a (g .fits) (u .0)) (higher-keys k w top h e a c (u .1))
 
 under-more : (top r : ℕ) (ks : List Key) → top ≤ r → Under top ks → Under r ks
 under-more top r [] l u = tt
 under-more top r (intKey x ∷ ks) l u = (omega (arith, u .0), under-more top r ks l (u .1))
 under-more top r (stringKey q ∷ ks) l u = (tt, under-more top r ks l (u .1))
 
-under-key : (s : List ℕ) (k : Key) (w : KeyWords) → Held s k w → KeyUnder (rank (w .content)) k
+under-key : {o : Bool} (s : List ℕ) (k : Key) (w : KeyWords) → Held o s k w → KeyUnder (rank (w .content)) k
 under-key s (intKey x) w g = omega (arith, ap rank (g .says))
 under-key s (stringKey q) w g = tt
 
@@ -250,7 +200,7 @@ pub rises-int : (h g : Seen) (w : KeyWords) (b : Bool) (n : ℕ) → w .tag ≡ 
 unfolding rises
 rises-int h g w b n e q z a = a ∙ ap (above g) z ∙ sym (rw (rises, eq-eqb (w .tag) 105 e, q))
 
-module _ (s t m : List ℕ) (first n : ℕ) (w : KeyWords) (h : Seen) (b : Bool) (is : b ≡ rises h w) where
+module _ (o : Bool) (s t m : List ℕ) (first n : ℕ) (w : KeyWords) (h : Seen) (b : Bool) (is : b ≡ rises h w) where
   module _ (up : b ≡ true) where
     tag-int : w .tag ≡ tag Kind.int
     unfolding rises
@@ -260,7 +210,7 @@ module _ (s t m : List ℕ) (first n : ℕ) (w : KeyWords) (h : Seen) (b : Bool)
     unfolding rises
     higher = T-true (above h (rank (w .content))) (and-right (eqb (w .tag) 105) (above h (rank (w .content))) (T-of (sym is ∙ up)))
 
-    pub tested-rising : Tested s t m m first n w h false
+    pub tested-rising : Tested o s t m m first n w h false
     tested-rising =
         record {
           answer = λ k ks g c u. new h higher k ks g c u;
@@ -269,7 +219,7 @@ module _ (s t m : List ℕ) (first n : ℕ) (w : KeyWords) (h : Seen) (b : Bool)
           grows = grows-none m;
         }
       where
-        new : (h : Seen) → above h (rank (w .content)) ≡ true → (k : Key) (ks : List Key) → Held s k w → Chain s t first n ks → Known h m first ks
+        new : (h : Seen) → above h (rank (w .content)) ≡ true → (k : Key) (ks : List Key) → Held o s k w → Chain o s t first n ks → Known h m first ks
             → false ≡ hasKey k ks
         new Seen.Nothing a k ks g c u = rw u
         new (Seen.Upto top) a k ks g c u = higher-keys k w top g tag-int (ltb-true top (rank (w .content)) a) c u
@@ -280,25 +230,29 @@ module _ (s t m : List ℕ) (first n : ℕ) (w : KeyWords) (h : Seen) (b : Bool)
         before (Seen.Upto top) a ks u = under-more top (rank (w .content)) ks (let l = ltb-true top (rank (w .content)) a in omega arith) u
         before Seen.Marked a ks u = absurd (let z : _≡_ {A = ℕ} 0 1 = cc in omega arith)
 
-  pub tested-bare : b ≡ false → length m ≡ 0 → (f : Bool) → ((k : Key) (ks : List Key) → Held s k w → Chain s t first n ks → f ≡ hasKey k ks)
-      → Tested s t m m first n w h f
-  tested-bare down e f o =
-      record {
-        answer = λ k ks g c u. o k ks g c;
-        known = λ k ks g c u. subst (λ (z : Seen). Known z m first (ks ++ (k ∷ []))) (sym (next-marked h w (sym is ∙ down)))
-            (all-none m first (ks ++ (k ∷ [])) e);
-        grows = grows-none m;
-      }
+  -- the test that walks
+  module _ (room : n * width ≤ length t) (f : Bool) (walked : f ≡ hasKey (keySaid o s w) (keysSaid o s t first n)) where
+    answered : (k : Key) (ks : List Key) → Held o s k w → Chain o s t first n ks → f ≡ hasKey k ks
+    answered k ks g c = walked ∙ said-has s w k room g c
+
+    pub tested-bare : b ≡ false → length m ≡ 0 → Tested o s t m m first n w h f
+    tested-bare down e =
+        record {
+          answer = λ k ks g c u. answered k ks g c;
+          known = λ k ks g c u. subst (λ (z : Seen). Known z m first (ks ++ (k ∷ []))) (sym (next-marked h w (sym is ∙ down)))
+              (all-none m first (ks ++ (k ∷ [])) e);
+          grows = grows-none m;
+        }
 
   module _ (down : b ≡ false) (m₁ : List ℕ) (r : Bool) (a : MarkedAll s t m m₁ first n w h r) where
-    listed : (k : Key) (ks : List Key) → Held s k w → Chain s t first n ks → Known h m first ks → Known (next h w) m₁ first (ks ++ (k ∷ []))
-    listed k ks g c u = subst (λ (z : Seen). Known z m₁ first (ks ++ (k ∷ []))) (sym (next-marked h w (sym is ∙ down))) (a .all k ks g c u)
+    listed : (k : Key) (ks : List Key) → Held o s k w → Chain o s t first n ks → Known h m first ks → Known (next h w) m₁ first (ks ++ (k ∷ []))
+    listed k ks g c u = subst (λ (z : Seen). Known z m₁ first (ks ++ (k ∷ []))) (sym (next-marked h w (sym is ∙ down))) (a .all o k ks g c u)
 
-    pub tested-new : r ≡ false → Tested s t m m₁ first n w h false
-    tested-new e = record { answer = λ k ks g c u. sym (a .new e k ks g c u); known = listed; grows = a .grows }
+    pub tested-new : r ≡ false → Tested o s t m m₁ first n w h false
+    tested-new e = record { answer = λ k ks g c u. sym (a .new e o k ks g c u); known = listed; grows = a .grows }
 
-    pub tested-walk : (f : Bool) → ((k : Key) (ks : List Key) → Held s k w → Chain s t first n ks → f ≡ hasKey k ks) → Tested s t m m₁ first n w h f
-    tested-walk f o = record { answer = λ k ks g c u. o k ks g c; known = listed; grows = a .grows }
+    pub tested-walk : n * width ≤ length t → (f : Bool) → f ≡ hasKey (keySaid o s w) (keysSaid o s t first n) → Tested o s t m m₁ first n w h f
+    tested-walk room f e = record { answer = λ k ks g c u. answered room f e k ks g c; known = listed; grows = a .grows }
 
 pub known-grows : (h : Seen) (m m′ : List ℕ) (first : ℕ) (ks : List Key) → Grows m m′ → Known h m first ks → Known h m′ first ks
 known-grows Seen.Nothing m m′ first ks g u = u

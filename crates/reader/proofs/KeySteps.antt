@@ -7,7 +7,7 @@ use mathlib.Core.Path.{_≡_, refl, sym, ap, _∙_, subst}
 use mathlib.Core.Bool.{Bool, true, false, not}
 use mathlib.Core.Logic.{⊎-elim}
 use mathlib.Core.List.{List, [], _∷_, _++_}
-use lib.Dec.{lit<}
+use lib.Dec.{eqb, lit<}
 use lib.ListN.{length, getD, take, drop, length-drop}
 use lib.Seq.{sets, drop-cons}
 use borrow.Author.Tests.{lt-ltb, le-ltb}
@@ -94,10 +94,11 @@ module _ (a : Bool) (s : List ℕ) (at b : ℕ) (may : mayBeKey b ≡ true) (her
         omega (arith, o, n, ap length w, length-drop at s, quoted-length q (byte ";" ∷ drop (x .next) s), number-length (q .spelling) (length (q .text)) []),
       )
 
-  pub held-of : Held s (f .what) (record { tag = b; content = x .content; size = x .size })
-  held-of =
+  pub held-of : isTagOf (keyKinds a) b ≡ true → Held a s (f .what) (record { tag = b; content = x .content; size = x .size })
+  held-of e =
       record {
         is = sym (ap tag kind-is ∙ tag-back);
+        allowed = e;
         says = says (f .what) at-key (f .tells);
         fits = keyText-ok a (kindFor b) 0 (drop (at + 1) s) (f .what, drop (x .next) s) which (f .is 0) .fits;
       }
@@ -122,18 +123,24 @@ added-words t t′ c c′ b x room p =
 
 -- ---- what is known of the keys
 
-pub none-more : (s t t′ m m′ : List ℕ) (first node : ℕ) (seen : Seen) (r : Step) (code at : ℕ) → r ≡ Step.Refused code at → Grows m m′
-    → Remembers s t t′ m m′ first node seen r
-none-more s t t′ m m′ first node seen r code at e g = record { grows = g; known = λ c′ q. absurd (not-both (sym (ap stepAnswer e) ∙ q)) }
+-- the test is told whether the container is an array
+pub told-array : {s t m m′ : List ℕ} {first node : ℕ} {w : KeyWords} {seen : Seen} {r : Bool} (container : ℕ)
+    → Tested (eqb container (tag Kind.array)) s t m m′ first node w seen r → Tested (isArrayTag container) s t m m′ first node w seen r
+unfolding isArrayTag
+told-array container d = d
 
-pub one-more : (s t t′ m m′ : List ℕ) (first capacity : ℕ) (seen : Seen) (c c′ : Cursor) (b : ℕ) (x : Text) (r : Step) (found : Bool) → Fit s t capacity c
-    → c .node < capacity → Tested s t m m′ first (c .node) (record { tag = b; content = x .content; size = x .size }) seen found → NodeAdded t t′ c b x false c′
-    → Remembers s t t′ m m′ first (c .node) seen r
-one-more s t t′ m m′ first capacity seen c c′ b x r found fit room d p =
+pub none-more : (ofArray : Bool) (s t t′ m m′ : List ℕ) (first node : ℕ) (seen : Seen) (r : Step) (code at : ℕ) → r ≡ Step.Refused code at → Grows m m′
+    → Remembers ofArray s t t′ m m′ first node seen r
+none-more ofArray s t t′ m m′ first node seen r code at e g = record { grows = g; known = λ c′ q. absurd (not-both (sym (ap stepAnswer e) ∙ q)) }
+
+pub one-more : (ofArray : Bool) (s t t′ m m′ : List ℕ) (first capacity : ℕ) (seen : Seen) (c c′ : Cursor) (b : ℕ) (x : Text) (r : Step) (found : Bool)
+    → Fit s t capacity c → c .node < capacity → Tested ofArray s t m m′ first (c .node) (record { tag = b; content = x .content; size = x .size }) seen found
+    → NodeAdded t t′ c b x false c′ → Remembers ofArray s t t′ m m′ first (c .node) seen r
+one-more ofArray s t t′ m m′ first capacity seen c c′ b x r found fit room d p =
     record {
       grows = d .grows;
       known = λ c″ q k ks h l u.
-          subst (λ (w : KeyWords). Known (next seen w) m′ first (ks ++ (k ∷ []))) (sym same) (d .known k ks (subst (Held s k) same h) l u);
+          subst (λ (w : KeyWords). Known (next seen w) m′ first (ks ++ (k ∷ []))) (sym same) (d .known k ks (subst (Held ofArray s k) same h) l u);
     }
   where
     same : keyWordsAt t′ (c .node) ≡ record { tag = b; content = x .content; size = x .size }
@@ -197,13 +204,13 @@ module _ (s : List ℕ) (capacity container : ℕ) (c : Cursor) (earlier : List 
           may : mayBeKey b ≡ true
           may = key-any a b e
 
-          key-held : Held s (f .what) (record { tag = b; content = x .content; size = x .size })
-          key-held = held-of a s (c .at) b may h q x f
+          key-held : Held a s (f .what) (record { tag = b; content = x .content; size = x .size })
+          key-held = held-of a s (c .at) b may h q x f e
 
           pub key-good : (t t′ : List ℕ) (c′ : Cursor) → Fit s t capacity c → hasKey (f .what) earlier ≡ false → NodeAdded t t′ c b x false c′
-              → GoodKey s t t′ capacity c given c′
+              → GoodKey a s t t′ capacity c given c′
           key-good t t′ c′ fit g p =
-              subst (GoodKey s t t′ capacity c given) (sym (p .cursor)) (record {
+              subst (GoodKey a s t t′ capacity c given) (sym (p .cursor)) (record {
                 key = f .what;
                 is = opened ∙ rw (f .is (c .at), g);
                 on = omega (arith, f .on);
@@ -214,5 +221,5 @@ module _ (s : List ℕ) (capacity container : ℕ) (c : Cursor) (earlier : List 
                 levels = refl;
                 table = p .table ∙ ap (λ (n : ℕ). sets t (c .node * width) (words (nodeOf b 0 n x))) (add-one (c .node))
                     ∙ ap (λ (n : Node). sets t (c .node * width) (words n)) (sym (key-node a s (c .at) b may h q x f (c .node)));
-                held = subst (Held s (f .what)) (sym (added-words t t′ c c′ b x (omega arith) p)) key-held;
+                held = subst (Held a s (f .what)) (sym (added-words t t′ c c′ b x (omega arith) p)) key-held;
               })

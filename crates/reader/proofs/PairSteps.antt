@@ -20,18 +20,19 @@ use Rattle.format.proofs.Inversion.{key-written, value-written}
 use Rattle.format.proofs.Results.{flat-length}
 use Rattle.format.proofs.Rows.{tableIn-length}
 use Rattle.keys.proofs.NodeKeys.{key-there}
+use Rattle.keys.proofs.Chains.{chain-le}
 use Rattle.reader.specs.declared.cursor.Cursor.{Cursor}
 use Rattle.reader.specs.declared.cursor.Step.{Step}
 use Rattle.key_filter.specs.Filter.{Grows}
 use Rattle.reader.specs.declared.seen.Seen.{Seen}
 use Rattle.keys.specs.declared.KeyWords.{KeyWords}
-use Rattle.keys.specs.KeyWords.{keyWordsAt, keyWordsIn, Held}
+use Rattle.keys.specs.KeyWords.{keyWordsAt, keyWordsIn, Held, Chain, none, pair}
 use Rattle.reader.specs.Texts.{isArrayTag}
-use Rattle.reader.specs.KeysSeen.{Chain, none, pair, Walk, Known, next}
+use Rattle.reader.specs.KeysSeen.{Walk, Known, next}
 use Rattle.reader.specs.Steps.{Points, Takes, TakesIn, Fit, KeptBelow, WroteIn, GoodValue, GoodPairs, GoodKey, MeetsPairs, Earlier, Remembers, innerAt}
 use Rattle.reader.specs.Steps.{stepAnswer, termsAt, settingAt, valueAt, pairsAt, keyAt}
 use Rattle.key_filter.proofs.Marking.{grows-none, grows-on}
-use Rattle.reader.proofs.KeyLaws.{chain-le, known-grows}
+use Rattle.reader.proofs.KeyLaws.{known-grows}
 use Rattle.reader.proofs.Snoc.{snoc, onto, onto-none, onto-done, onto-refused, onto-snoc, nodes-snoc, ordinals-snoc, key-adds, write-adds, length-snoc}
 use Rattle.reader.proofs.Snoc.{ordinals-le, flat-append, table-snoc, takes-snoc}
 use Rattle.reader.proofs.Stored.{run-kept, run-word, points-kept, points-skip}
@@ -49,16 +50,16 @@ has-snoc x k [] = refl
 has-snoc x k (j ∷ ks) = ap (λ (b : Bool). sameKey x j || b) (has-snoc x k ks) ∙ or-swap (sameKey x j) (sameKey x k) (hasKey x ks)
 
 -- the key at a node, where the words are as they were
-held-kept : {s : List ℕ} (t t′ : List ℕ) (k : Key) (i : ℕ) → ((j : ℕ) → j < width → wordAt t′ i j ≡ wordAt t i j) → Held s k (keyWordsAt t i)
-    → Held s k (keyWordsAt t′ i)
+held-kept : {o : Bool} {s : List ℕ} (t t′ : List ℕ) (k : Key) (i : ℕ) → ((j : ℕ) → j < width → wordAt t′ i j ≡ wordAt t i j) → Held o s k (keyWordsAt t i)
+    → Held o s k (keyWordsAt t′ i)
 held-kept t t′ k i same h = rw (same 0 (lit< tt), same 2 (lit< tt), same 3 (lit< tt)) h
 
-chain-more : {s t : List ℕ} (t′ : List ℕ) {i n : ℕ} {ks : List Key} (k : Key) (m : ℕ) → KeptBelow t t′ n → Held s k (keyWordsAt t′ n) → wordAt t′ n pairEnd ≡ m
-    → n + 1 < m → Chain s t i n ks → Chain s t′ i m (ks ++ (k ∷ []))
+chain-more : {o : Bool} {s t : List ℕ} (t′ : List ℕ) {i n : ℕ} {ks : List Key} (k : Key) (m : ℕ) → KeptBelow t t′ n → Held o s k (keyWordsAt t′ n)
+    → wordAt t′ n pairEnd ≡ m → n + 1 < m → Chain o s t i n ks → Chain o s t′ i m (ks ++ (k ∷ []))
 chain-more t′ k m same h e l none = pair h e l none
-chain-more {t = t} t′ k m same h e l (pair {i = i} {k = j} a b o c) =
+chain-more {t = t} t′ k m same h e l (pair {i = i} {k = j} a b u c) =
     let q = chain-le c in
-    pair (held-kept t t′ j i (λ x u. same (i * width + x) (omega arith)) a) (same (i * width + pairEnd) (omega arith) ∙ b) o (chain-more t′ k m same h e l c)
+    pair (held-kept t t′ j i (λ x v. same (i * width + x) (omega arith)) a) (same (i * width + pairEnd) (omega arith) ∙ b) u (chain-more t′ k m same h e l c)
 
 -- ---- what the loop keeps
 
@@ -70,7 +71,7 @@ pub record Run (s t₀ t m₀ m : List ℕ) (capacity container count : ℕ) (c�
   pub pairs : Values
   pub earlier : List Key
   all : pairsAt s capacity container count c₀ ≡ onto pairs (restAt s capacity container (c₀ .levels) more earlier c)
-  pub keys : Earlier s t m (c₀ .node) (c .node) seen earlier
+  pub keys : Earlier (isArrayTag container) s t m (c₀ .node) (c .node) seen earlier
   node : c .node ≡ c₀ .node + nodesIn pairs
   ordinal : c .ordinal ≡ c₀ .ordinal + ordinalsIn own pairs
   behind : c .at ≡ c₀ .at + length (writePairs pairs [])
@@ -106,7 +107,7 @@ run-start s t m capacity container count c f =
 module _ {s t₀ t m₀ m : List ℕ} {capacity container count : ℕ} {c₀ c : Cursor} {more : ℕ} {seen : Seen}
     (r : Run s t₀ t m₀ m capacity container count c₀ c more seen) where
   pub run-walk : Walk s t (c₀ .node) (c .node)
-  run-walk = record { keys = r .keys .keys; chain = r .keys .chain }
+  run-walk = record { ofArray = isArrayTag container; keys = r .keys .keys; chain = r .keys .chain }
 
   pub run-on : c₀ .at ≤ c .at
   run-on = omega (arith, r .behind)
@@ -145,7 +146,7 @@ module _ {s t₀ t m₀ m : List ℕ} {capacity container count : ℕ} {c₀ c :
         go zero h = absurd (omega arith)
         go (suc m) h = rw e
 
-    module _ (t₁ : List ℕ) (mid : Cursor) (k : GoodKey s t t₁ capacity c (keyAt s capacity container (r .earlier) c) mid) where
+    module _ (t₁ : List ℕ) (mid : Cursor) (k : GoodKey (isArrayTag container) s t t₁ capacity c (keyAt s capacity container (r .earlier) c) mid) where
       value-is : innerAt s capacity (c₀ .levels) (c .ordinal) (suc (c .node)) (drop (mid .at) s) ≡ valueAt s capacity mid
       unfolding innerAt valueAt
       value-is =
@@ -177,7 +178,7 @@ module _ {s t₀ t m₀ m : List ℕ} {capacity container count : ℕ} {c₀ c :
       module _ (t₂ : List ℕ) (after : Cursor) (g : GoodValue s t₁ t₂ capacity mid (valueAt s capacity mid) after) (l₁ : length t₁ ≡ length t)
           (l₂ : length t₂ ≡ length t₁)
           (m₁ m₂ : List ℕ) (n₁ : length m₁ ≡ length m) (n₂ : length m₂ ≡ length m₁) (step : Step) (done : step ≡ Step.Done mid)
-          (a : Remembers s t t₁ m m₁ (c₀ .node) (c .node) seen step) (b : Grows m₁ m₂)
+          (a : Remembers (isArrayTag container) s t t₁ m m₁ (c₀ .node) (c .node) seen step) (b : Grows m₁ m₂)
           (seen′ : Seen) (w : KeyWords) (of-key : w ≡ keyWordsIn t₁ (c .node)) (e : seen′ ≡ next seen w) where
         value-long : after .at ≡ mid .at + length (write (g .value) [])
         unfolding valueAt
@@ -228,7 +229,7 @@ module _ {s t₀ t m₀ m : List ℕ} {capacity container count : ℕ} {c₀ c :
             behind : mid .node ≡ c .node + 1 → c .node * width + pairEnd ≡ mid .node * width + endWord
             behind e = omega arith
 
-        listed : Earlier s t₂ m₂ (c₀ .node) (after .node) seen′ (k .key ∷ r .earlier)
+        listed : Earlier (isArrayTag container) s t₂ m₂ (c₀ .node) (after .node) seen′ (k .key ∷ r .earlier)
         listed =
             record {
               keys = r .keys .keys ++ (k .key ∷ []);

@@ -2,14 +2,14 @@
 use mathlib.Core.Path.{_≡_}
 use mathlib.Core.Bool.{Bool, true, false, _&&_}
 use mathlib.Core.List.{List, [], _∷_, _++_}
-use Prim.Native.Nat.{ℕ, _+_, _^_, _%_, _≤_, _<_}
+use Prim.Native.Nat.{ℕ, _+_, _^_, _%_, _≤_}
 use lib.Dec.{eqb, ltb}
 use Rattle.format.specs.Kind.{Kind, tag}
 use Rattle.format.specs.Syntax.{intKey, stringKey, Key}
 use Rattle.format.specs.Keys.{integer, hasKey}
-use Rattle.format.specs.Table.{word, wordAt, pairEnd}
+use Rattle.format.specs.Table.{word}
 use Rattle.keys.specs.declared.KeyWords.{KeyWords}
-use Rattle.keys.specs.KeyWords.{keyWordsAt, Held}
+use Rattle.keys.specs.KeyWords.{keyWordsAt, Held, Chain}
 use Rattle.key_filter.specs.Filter.{Grows, AllMarked}
 use Rattle.reader.specs.declared.seen.Seen.{Seen}
 
@@ -21,15 +21,11 @@ rank w = (w + 9223372036854775808) % 2 ^ 64
 unfoldable pub keyOr : List ℕ → (i n : ℕ) → KeyWords → KeyWords
 keyOr t i n w = elim (ltb i n) [ true ↦ keyWordsAt t i | false ↦ w ]
 
--- from node i on pairs stand up to node n, with these keys; a pair ends where word 5 of its value says
-pub data Chain (s t : List ℕ) : ℕ → ℕ → List Key → Type 0 where
-  none : {n : ℕ} → Chain s t n n []
-  pair : {i n next : ℕ} {k : Key} {ks : List Key} → Held s k (keyWordsAt t i) → wordAt t i pairEnd ≡ next → i + 1 < next
-      → Chain s t next n ks → Chain s t i n (k ∷ ks)
-
+-- pairs of an array, or of an object, stand from one node up to another
 pub record Walk (s t : List ℕ) (first node : ℕ) : Type 0 where
+  pub ofArray : Bool
   pub keys : List Key
-  pub chain : Chain s t first node keys
+  pub chain : Chain ofArray s t first node keys
 
 -- ---- what is known of earlier keys
 
@@ -69,11 +65,13 @@ next h w = elim (rises h w) [ true ↦ Seen.Upto (rank (w .content)) | false ↦
 -- the keys of the pairs are marked, and then one more, which is new if it was not
 pub record MarkedAll (s t m m′ : List ℕ) (first node : ℕ) (w : KeyWords) (h : Seen) (r : Bool) : Type 0 where
   pub grows : Grows m m′
-  pub all : (k : Key) (ks : List Key) → Held s k w → Chain s t first node ks → Known h m first ks → AllMarked m′ first (ks ++ (k ∷ []))
-  pub new : r ≡ false → (k : Key) (ks : List Key) → Held s k w → Chain s t first node ks → Known h m first ks → hasKey k ks ≡ false
+  pub all : (ofArray : Bool) (k : Key) (ks : List Key) → Held ofArray s k w → Chain ofArray s t first node ks → Known h m first ks
+      → AllMarked m′ first (ks ++ (k ∷ []))
+  pub new : r ≡ false → (ofArray : Bool) (k : Key) (ks : List Key) → Held ofArray s k w → Chain ofArray s t first node ks → Known h m first ks
+      → hasKey k ks ≡ false
 
 -- the test of a key: whether it is among the pairs', and what is known with it
-pub record Tested (s t m m′ : List ℕ) (first node : ℕ) (w : KeyWords) (h : Seen) (r : Bool) : Type 0 where
-  pub answer : (k : Key) (ks : List Key) → Held s k w → Chain s t first node ks → Known h m first ks → r ≡ hasKey k ks
-  pub known : (k : Key) (ks : List Key) → Held s k w → Chain s t first node ks → Known h m first ks → Known (next h w) m′ first (ks ++ (k ∷ []))
+pub record Tested (ofArray : Bool) (s t m m′ : List ℕ) (first node : ℕ) (w : KeyWords) (h : Seen) (r : Bool) : Type 0 where
+  pub answer : (k : Key) (ks : List Key) → Held ofArray s k w → Chain ofArray s t first node ks → Known h m first ks → r ≡ hasKey k ks
+  pub known : (k : Key) (ks : List Key) → Held ofArray s k w → Chain ofArray s t first node ks → Known h m first ks → Known (next h w) m′ first (ks ++ (k ∷ []))
   pub grows : Grows m m′

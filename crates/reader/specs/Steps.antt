@@ -1,5 +1,6 @@
 -- What a step of reading answers and leaves in the table, by the definitions of `Read`.
 use mathlib.Core.Path.{_≡_}
+use mathlib.Core.Bool.{Bool}
 use mathlib.Core.List.{List, [], _∷_, _++_}
 use Prim.Native.Nat.{ℕ, suc, _+_, _*_, _≤_, _<_}
 use lib.Dec.{T, ltb}
@@ -15,11 +16,11 @@ use Rattle.format.specs.Table.{words, width, wordAt, ordinalWord, endWord, flat
 use Rattle.reader.specs.declared.cursor.Cursor.{Cursor}
 use Rattle.reader.specs.declared.cursor.Step.{Step}
 use Rattle.reader.specs.declared.cursor.Gate.{Gate}
-use Rattle.keys.specs.KeyWords.{keyWordsAt, Held}
+use Rattle.keys.specs.KeyWords.{keyWordsAt, Held, Chain}
 use Rattle.key_filter.specs.Filter.{Grows}
 use Rattle.reader.specs.declared.seen.Seen.{Seen}
 use Rattle.reader.specs.Texts.{isArrayTag}
-use Rattle.reader.specs.KeysSeen.{Chain, Known, next}
+use Rattle.reader.specs.KeysSeen.{Known, next}
 
 -- ---- ordinals and the nodes that take them
 
@@ -149,7 +150,7 @@ abbrev pub MeetsPairs : (s t t′ : List ℕ) (capacity : ℕ) (c : Cursor) → 
 MeetsPairs s t t′ capacity c o r = GoodOr (GoodPairs s t t′ capacity c o) o (stepAnswer r)
 
 -- the same of a key
-pub record GoodKey (s t t′ : List ℕ) (capacity : ℕ) (c : Cursor) (o : Answer (Key × List ℕ)) (c′ : Cursor) : Type 0 where
+pub record GoodKey (ofArray : Bool) (s t t′ : List ℕ) (capacity : ℕ) (c : Cursor) (o : Answer (Key × List ℕ)) (c′ : Cursor) : Type 0 where
   pub key : Key
   pub is : o ≡ ok (key, drop (c′ .at) s)
   pub on : c .at < c′ .at
@@ -159,23 +160,23 @@ pub record GoodKey (s t t′ : List ℕ) (capacity : ℕ) (c : Cursor) (o : Answ
   pub ordinal : c′ .ordinal ≡ c .ordinal
   pub levels : c′ .levels ≡ c .levels
   pub table : t′ ≡ sets t (c .node * width) (words (keyNode (c .at) (c .node) key))
-  pub held : Held s key (keyWordsAt t′ (c .node))
+  pub held : Held ofArray s key (keyWordsAt t′ (c .node))
 
-abbrev pub MeetsKey : (s t t′ : List ℕ) (capacity : ℕ) (c : Cursor) → Answer (Key × List ℕ) → Step → Type 0
-MeetsKey s t t′ capacity c o r = GoodOr (GoodKey s t t′ capacity c o) o (stepAnswer r)
+abbrev pub MeetsKey : (ofArray : Bool) (s t t′ : List ℕ) (capacity : ℕ) (c : Cursor) → Answer (Key × List ℕ) → Step → Type 0
+MeetsKey ofArray s t t′ capacity c o r = GoodOr (GoodKey ofArray s t t′ capacity c o) o (stepAnswer r)
 
 -- the keys read before are those that stand in the table
-pub record Earlier (s t m : List ℕ) (first node : ℕ) (seen : Seen) (earlier : List Key) : Type 0 where
+pub record Earlier (ofArray : Bool) (s t m : List ℕ) (first node : ℕ) (seen : Seen) (earlier : List Key) : Type 0 where
   pub keys : List Key
-  pub chain : Chain s t first node keys
+  pub chain : Chain ofArray s t first node keys
   pub same : (k : Key) → hasKey k earlier ≡ hasKey k keys
   pub known : Known seen m first keys
 
 -- what is known of the keys once one more is read
-pub record Remembers (s t t′ m m′ : List ℕ) (first node : ℕ) (seen : Seen) (r : Step) : Type 0 where
+pub record Remembers (ofArray : Bool) (s t t′ m m′ : List ℕ) (first node : ℕ) (seen : Seen) (r : Step) : Type 0 where
   pub grows : Grows m m′
-  pub known : (c′ : Cursor) → stepAnswer r ≡ ok c′ → (k : Key) (ks : List Key) → Held s k (keyWordsAt t′ node) → Chain s t first node ks → Known seen m first ks
-      → Known (next seen (keyWordsAt t′ node)) m′ first (ks ++ (k ∷ []))
+  pub known : (c′ : Cursor) → stepAnswer r ≡ ok c′ → (k : Key) (ks : List Key) → Held ofArray s k (keyWordsAt t′ node) → Chain ofArray s t first node ks
+      → Known seen m first ks → Known (next seen (keyWordsAt t′ node)) m′ first (ks ++ (k ∷ []))
 
 -- ---- a whole plan
 

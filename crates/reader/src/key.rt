@@ -48,11 +48,11 @@ pub(crate) fn read_key(
     requires { ⌜ Fit (now source) (now table) capacity cursor ⌝ }
     requires { ⌜ Walk (now source) (now table) first (cursor .node) ⌝ }
     ensures { λ r. ⌜ ((earlier : List Key)
-        → Earlier (now (source .entry)) (now (table .entry)) (now (filter .entry)) first (cursor .node) seen earlier
-        → MeetsKey (now (source .entry)) (now (table .entry)) (now (table .exit)) capacity cursor
+        → Earlier (isArrayTag container) (now (source .entry)) (now (table .entry)) (now (filter .entry)) first (cursor .node) seen earlier
+        → MeetsKey (isArrayTag container) (now (source .entry)) (now (table .entry)) (now (table .exit)) capacity cursor
         (keyAt (now (source .entry)) capacity container earlier cursor) r) ⌝ }
-    ensures { λ r. ⌜ Remembers (now (source .entry)) (now (table .entry)) (now (table .exit)) (now (filter .entry)) (now (filter .exit))
-        first (cursor .node) seen r ⌝ }
+    ensures { λ r. ⌜ Remembers (isArrayTag container) (now (source .entry)) (now (table .entry)) (now (table .exit)) (now (filter .entry))
+        (now (filter .exit)) first (cursor .node) seen r ⌝ }
 {
     let at = cursor.at;
     let node = cursor.node;
@@ -75,7 +75,8 @@ pub(crate) fn read_key(
         content: text.content,
         size: text.size,
     };
-    if key_seen(source, table, filter, first, node, key, seen) {
+    let of_array = container == Kind::ARRAY;
+    if key_seen(of_array, source, table, filter, first, node, key, seen) {
         return Step::Refused(KEY_REPEATED, at);
     }
     Step::Done(add_node(table, cursor, tag, text, false))

@@ -1,22 +1,18 @@
 // Whether a key equals an earlier one of its container. As long as its keys are integers that rise, a key costs one comparison, by rank. The first that does
 // not rise, or is a string, has all keys of the container marked in the filter (crates/key_filter): a key that is not marked is new, and one that is marked is
-// looked for by a walk over the pairs, from pair to pair by word 5. So the filter decides time and never an answer, and reading's promise does not speak of it.
+// looked for among the pairs (`has_key`, crates/keys). So the filter decides time and never an answer, and reading's promise does not speak of it.
 // The loop over the pairs carries what is known of the keys (`Seen`) from key to key, and knows nothing else of this.
 use format::table::INT_TAG;
 use format::table::PAIR_END;
 use format::table::WIDTH;
 use keys::KeyWords;
+use keys::has_key;
 use keys::key_at;
-use keys::same_key;
 ghost use mathlib.Core.Path.{_≡_};
-ghost use mathlib.Core.List.{List};
 ghost use Prim.Native.Nat.{_+_, _*_, _≤_};
 ghost use lib.ListN.{length};
-ghost use Rattle.format.specs.Syntax.{Key};
-ghost use Rattle.format.specs.Keys.{hasKey};
 ghost use Rattle.format.specs.Table.{width};
-ghost use Rattle.keys.specs.KeyWords.{Held};
-ghost use Rattle.reader.specs.KeysSeen.{rank, keyOr, Chain, Walk, MarkedAll, Tested, unmarkedFrom, rises, next};
+ghost use Rattle.reader.specs.KeysSeen.{rank, keyOr, Walk, MarkedAll, Tested, unmarkedFrom, rises, next};
 
 // What is known of the keys so far: there is none; no integer among them has a higher rank; all are marked.
 pub enum Seen {
@@ -30,23 +26,6 @@ fn rank(pattern: u64) -> u64
     ensures { λ r. ⌜ r ≡ rank pattern ⌝ }
 {
     std::num::wrapping_add_u64(pattern, 9223372036854775808)
-}
-
-// Whether a key equals one of those of the pairs that stand from node `first` up to `node`, one by one.
-fn walk(source: &[u8], table: &[u64], first: usize, node: usize, key: KeyWords) -> bool
-    requires { ⌜ node * width ≤ length (now table) ⌝ }
-    requires { ⌜ Walk (now source) (now table) first node ⌝ }
-    ensures { λ r. ⌜ ((k : Key) (ks : List Key) → Held (now (source .entry)) k key
-        → Chain (now (source .entry)) (now (table .entry)) first node ks → r ≡ hasKey k ks) ⌝ }
-{
-    let mut i = first;
-    while i < node {
-        if same_key(source, key, source, key_at(table, i)) {
-            return true;
-        }
-        i = table[i * WIDTH + PAIR_END] as usize;
-    }
-    false
 }
 
 // Whether an integer key is above all before, where only such came.
@@ -123,6 +102,7 @@ fn mark_keys(
 
 // Whether a key equals one of those of the pairs that stand from node `first` up to `node`.
 pub(crate) fn key_seen(
+    of_array: bool,
     source: &[u8],
     table: &[u64],
     filter: &mut [u64],
@@ -133,16 +113,16 @@ pub(crate) fn key_seen(
 ) -> bool
     requires { ⌜ node * width ≤ length (now table) ⌝ }
     requires { ⌜ Walk (now source) (now table) first node ⌝ }
-    ensures { λ r. ⌜ Tested (now (source .entry)) (now (table .entry)) (now (filter .entry)) (now (filter .exit)) first node key seen r ⌝ }
+    ensures { λ r. ⌜ Tested «of_array» (now (source .entry)) (now (table .entry)) (now (filter .entry)) (now (filter .exit)) first node key seen r ⌝ }
 {
     if rises(seen, key) {
         return false;
     }
     if filter.len() == 0 {
-        return walk(source, table, first, node, key);
+        return has_key(of_array, source, table, first, node, source, key);
     }
     if !mark_keys(source, table, filter, first, node, key, seen) {
         return false;
     }
-    walk(source, table, first, node, key)
+    has_key(of_array, source, table, first, node, source, key)
 }

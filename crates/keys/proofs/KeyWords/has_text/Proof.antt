@@ -1,13 +1,13 @@
 -- `keys::KeyWords::has_text` meets its contract. Assumes nothing.
 use native.Mathlib.Omega.{arith}
 use mathlib.Core.Path.{sym}
-use Rattle.keys.proofs.SameWords as same
+use Rattle.keys.proofs.SaidKeys as said
 use borrow.Author.Needs.{needs}
 use Rattle.keys.proofs.KeyWords.has_text.Statement.{statement}
 use Rattle.keys.proofs.KeyWords.has_text.Tie as tie
 
 returns : tie.Need-returns
-returns c = sym (same.above-no-text (c .before .before .args .self .tag) (omega (arith, c .if1 .taken)))
+returns c = sym (said.above-no-text (c .before .before .args .self .tag) (omega (arith, c .if1 .taken)))
 
 cast-t4 : tie.Need-cast-t4
 cast-t4 c = search needs

@@ -103,7 +103,7 @@ add-first : tie.Need-add-first
 add-first c = omega (arith, steps.node-low (found (c .before)), steps.table-room (entry (c .before) .pre))
 
 new-key-requires : tie.Need-new-key-requires
-new-key-requires c κs = steps.walks (found (c .before))
+new-key-requires c κs = steps.array-inside (found (c .before))
 
 enum-told-4 : tie.Need-enum-told-4
 enum-told-4 c = search needs

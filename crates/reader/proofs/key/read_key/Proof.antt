@@ -55,7 +55,7 @@ returns : tie.Need-returns
 returns c =
     let start = c .before .before .before .before in (
       λ earlier e. steps.key-end _ _ _ _ earlier (c .if1 .taken) (start .pre .0 .inside),
-      steps.none-more _ _ _ _ _ _ _ _ _ _ _ refl (grows-none _),
+      steps.none-more _ _ _ _ _ _ _ _ _ _ _ _ refl (grows-none _),
     )
 
 shared-slice-read-tag : tie.Need-shared-slice-read-tag
@@ -69,7 +69,7 @@ returns-2 c =
     let asked = c .before in
     let inside = asked .before .before in (
       λ earlier e. steps.key-other _ _ _ _ earlier _ (inside .if1 .left) refl (sym (asked .key-allowed .ensures) ∙ not-true _ (c .if2 .taken)),
-      steps.none-more _ _ _ _ _ _ _ _ _ _ _ refl (grows-none _),
+      steps.none-more _ _ _ _ _ _ _ _ _ _ _ _ refl (grows-none _),
     )
 
 returns-3 : tie.Need-returns-3
@@ -79,7 +79,7 @@ returns-3 c =
     let inside = asked .before .before in
     let may = sym (asked .key-allowed .ensures) ∙ not-false _ (allowed .if2 .left) in (
       λ earlier e. steps.key-full _ _ _ _ earlier _ (inside .if1 .left) refl may (c .if3 .taken),
-      steps.none-more _ _ _ _ _ _ _ _ _ _ _ refl (grows-none _),
+      steps.none-more _ _ _ _ _ _ _ _ _ _ _ _ refl (grows-none _),
     )
 
 add-key : tie.Need-add-key
@@ -104,11 +104,11 @@ returns-4 c =
       λ earlier e.
           steps.key-not _ _ _ _ earlier _ (inside scanned .if1 .left) refl (may scanned) (room scanned .if3 .left)
           _ _ _ (told scanned) (failed .enum-told .given .1) (c .code-of .ensures),
-      steps.none-more _ _ _ _ _ _ _ _ _ _ _ refl (grows-none _),
+      steps.none-more _ _ _ _ _ _ _ _ _ _ _ _ refl (grows-none _),
     )
 
-cast-t21 : tie.Need-cast-t21
-cast-t21 c =
+cast-t22 : tie.Need-cast-t22
+cast-t22 c =
     let known = c .before .before .before .before .before .before .before in
     let start = known .before .before .before .before .before in
     omega (arith, known .shared-slice-known2 .given (start .args .cursor .at))
@@ -130,11 +130,12 @@ returns-5 c =
     let found = tested .before .before .before .before in
     let scanned = found .before .before in
     let is = found-of (told scanned) (found .scan .given .1) in
-    let held = steps.held-of _ _ _ _ (any scanned) (inside scanned .if1 .left) refl _ is in (
+    let held = steps.held-of _ _ _ _ (any scanned) (inside scanned .if1 .left) refl _ is (may scanned) in
+    let keys = steps.told-array (start scanned .args .container) (tested .key-seen .ensures) in (
       λ earlier e.
-          let twice = e .same _ ∙ sym (tested .key-seen .ensures .answer _ _ held (e .chain) (e .known)) ∙ c .if4 .taken in
+          let twice = e .same _ ∙ sym (keys .answer _ _ held (e .chain) (e .known)) ∙ c .if4 .taken in
           steps.key-twice _ _ _ _ earlier _ (inside scanned .if1 .left) refl (may scanned) (room scanned .if3 .left) _ is twice,
-      steps.none-more _ _ _ _ _ _ _ _ _ _ _ refl (tested .key-seen .ensures .grows),
+      steps.none-more _ _ _ _ _ _ _ _ _ _ _ _ refl (tested .key-seen .ensures .grows),
     )
 
 add-node-requires : tie.Need-add-node-requires
@@ -155,12 +156,13 @@ returns-6 c =
     let scanned = found .before .before in
     let fit = start scanned .pre .0 in
     let is = found-of (told scanned) (found .scan .given .1) in
-    let held = steps.held-of _ _ _ _ (any scanned) (inside scanned .if1 .left) refl _ is in (
+    let held = steps.held-of _ _ _ _ (any scanned) (inside scanned .if1 .left) refl _ is (may scanned) in
+    let keys = steps.told-array (start scanned .args .container) (tested .key-seen .ensures) in (
       λ earlier e.
-          let once = e .same _ ∙ sym (tested .key-seen .ensures .answer _ _ held (e .chain) (e .known)) ∙ new .if4 .left in
+          let once = e .same _ ∙ sym (keys .answer _ _ held (e .chain) (e .known)) ∙ new .if4 .left in
           steps.key-good _ _ _ _ earlier _ (inside scanned .if1 .left) refl (may scanned) (room scanned .if3 .left) _ is
           _ _ _ fit once (added .add-node .ensures),
-      steps.one-more _ _ _ _ _ _ _ _ _ _ _ _ _ _ fit (room scanned .if3 .left) (tested .key-seen .ensures) (added .add-node .ensures),
+      steps.one-more _ _ _ _ _ _ _ _ _ _ _ _ _ _ _ fit (room scanned .if3 .left) keys (added .add-node .ensures),
     )
 
 pub read-key-spec : {M : Type 1} → statement M
@@ -178,7 +180,7 @@ read-key-spec =
     enum-told
     code-of-requires
     returns-4
-    cast-t21
+    cast-t22
     key-seen-requires
     same-length
     same-length-2

@@ -9,16 +9,18 @@ rises-requires : tie.Need-rises-requires
 rises-requires c κs = search needs
 
 returns : tie.Need-returns
-returns c = keys.tested-rising _ _ _ _ _ _ _ _ (c .before .rises .ensures) (c .if1 .taken)
+returns c = keys.tested-rising _ _ _ _ _ _ _ _ _ (c .before .rises .ensures) (c .if1 .taken)
 
-walk-requires : tie.Need-walk-requires
-walk-requires c κs = search needs
+has-key-requires : tie.Need-has-key-requires
+has-key-requires c κs = search needs
 
 returns-2 : tie.Need-returns-2
 returns-2 c =
     let bare = c .before in
     let down = bare .before in
-    keys.tested-bare _ _ _ _ _ _ _ _ (down .before .rises .ensures) (down .if1 .left) (bare .if2 .taken) _ (c .walk .ensures)
+    let asked = down .before in
+    keys.tested-bare _ _ _ _ _ _ _ _ _ (asked .rises .ensures) (asked .before .before .before .before .pre .0) _ (c .has-key .ensures) (down .if1 .left)
+    (bare .if2 .taken)
 
 mark-keys-requires : tie.Need-mark-keys-requires
 mark-keys-requires c κs = search needs
@@ -30,10 +32,10 @@ returns-3 : tie.Need-returns-3
 returns-3 c =
     let marked = c .before .before .before in
     let down = marked .before .before .before in
-    keys.tested-new _ _ _ _ _ _ _ _ (down .before .rises .ensures) (down .if1 .left) _ _ (marked .mark-keys .ensures) (not-true _ (c .if3 .taken))
+    keys.tested-new _ _ _ _ _ _ _ _ _ (down .before .rises .ensures) (down .if1 .left) _ _ (marked .mark-keys .ensures) (not-true _ (c .if3 .taken))
 
-walk-requires-2 : tie.Need-walk-requires-2
-walk-requires-2 c κs = search needs
+has-key-requires-2 : tie.Need-has-key-requires-2
+has-key-requires-2 c κs = search needs
 
 same-length-2 : tie.Need-same-length-2
 same-length-2 c = search needs
@@ -42,7 +44,9 @@ returns-4 : tie.Need-returns-4
 returns-4 c =
     let marked = c .before .before .before .before in
     let down = marked .before .before .before in
-    keys.tested-walk _ _ _ _ _ _ _ _ (down .before .rises .ensures) (down .if1 .left) _ _ (marked .mark-keys .ensures) _ (c .walk2 .ensures)
+    let asked = down .before in
+    keys.tested-walk _ _ _ _ _ _ _ _ _ (asked .rises .ensures) (down .if1 .left) _ _ (marked .mark-keys .ensures)
+    (asked .before .before .before .before .pre .0) _ (c .has-key2 .ensures)
 
 pub key-seen-spec : {M : Type 1} → statement M
 key-seen-spec =
@@ -50,11 +54,11 @@ key-seen-spec =
     (tie.spec
     rises-requires
     returns
-    walk-requires
+    has-key-requires
     returns-2
     mark-keys-requires
     same-length
     returns-3
-    walk-requires-2
+    has-key-requires-2
     same-length-2
     returns-4)

@@ -276,7 +276,7 @@ pairs-returns t c =
     let keyed = c .before .before .before .before .before .before in
     let more = keyed .before .before .before in
     let run = more .before .loop .inv in
-    let refused = subst (MeetsKey _ _ _ _ _ _) (c .enum-told .given .1) (keyed .read-key .ensures .0 (run .earlier) (run .keys)) in (
+    let refused = subst (MeetsKey _ _ _ _ _ _ _) (c .enum-told .given .1) (keyed .read-key .ensures .0 (run .earlier) (run .keys)) in (
       pairs.pairs-bad _ _ _ _ _ _ _ _ _ (c .enum-told .given .1) (pairs.run-key-bad run (more .loop-test .taken) _ _ refused),
       grows-on (run .grown) (keyed .read-key .ensures .1 .grows),
     )
@@ -287,7 +287,7 @@ pairs-read-value-requires t c κs =
     let keyed = told .before .before .before .before .before .before in
     let more = keyed .before .before .before in
     let run = more .before .loop .inv in
-    let key = subst (MeetsKey _ _ _ _ _ _) (told .key .given .1) (keyed .read-key .ensures .0 (run .earlier) (run .keys)) in
+    let key = subst (MeetsKey _ _ _ _ _ _ _) (told .key .given .1) (keyed .read-key .ensures .0 (run .earlier) (run .keys)) in
     let behind = pairs.run-on run in
     (omega (arith, key .on, key .inside), pairs.mid-fit run (more .loop-test .taken) _ _ key (keyed .read-key .kept .1 .0))
 
@@ -313,7 +313,7 @@ pairs-returns-2 t c =
     let keyed = told .before .before .before .before .before .before in
     let more = keyed .before .before .before in
     let run = more .before .loop .inv in
-    let key = subst (MeetsKey _ _ _ _ _ _) (told .key .given .1) (keyed .read-key .ensures .0 (run .earlier) (run .keys)) in
+    let key = subst (MeetsKey _ _ _ _ _ _ _) (told .key .given .1) (keyed .read-key .ensures .0 (run .earlier) (run .keys)) in
     let refused = subst (Meets _ _ _ _ _ _) (failed .value2 .given .1) (valued .read-value .ensures .0) in (
       pairs.run-value-bad run (more .loop-test .taken) _ _ key _ _ refused,
       grows-on (run .grown) (grows-on (keyed .read-key .ensures .1 .grows) (valued .read-value .ensures .1)),
@@ -338,7 +338,7 @@ pairs-loop-again t c =
     let keyed = told .before .before .before .before .before .before in
     let more = keyed .before .before .before in
     let run = more .before .loop .inv in
-    let key = subst (MeetsKey _ _ _ _ _ _) (told .key .given .1) (keyed .read-key .ensures .0 (run .earlier) (run .keys)) in
+    let key = subst (MeetsKey _ _ _ _ _ _ _) (told .key .given .1) (keyed .read-key .ensures .0 (run .earlier) (run .keys)) in
     let value = subst (Meets _ _ _ _ _ _) (done .value .given .1) (valued .read-value .ensures .0) in
     pairs.run-more run (more .loop-test .taken) _ _ key _ _ value (keyed .read-key .kept .1 .0) (valued .read-value .kept .1 .0)
     _ _ (keyed .read-key .kept .1 .1 .0) (valued .read-value .kept .1 .1 .0) _ (told .key .given .1) (keyed .read-key .ensures .1)
