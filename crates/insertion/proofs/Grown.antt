@@ -13,28 +13,31 @@ use Rattle.format.proofs.OneText.{paths-length}
 use Rattle.insertion.specs.Shift.{shift}
 use Rattle.insertion.specs.Ways.{WayTo, found, inside, WayIn, first, later}
 
--- ---- a list of paths grown by one at entry n, the others moved
-pub record Grown (old new : List TreePath) (n : ℕ) (move : TreePath → TreePath) (path : TreePath) : Type 0 where
+-- ---- a list of paths grown by some at entry n, the others moved
+pub record Grown (old new : List TreePath) (n : ℕ) (move : TreePath → TreePath) (added : List TreePath) : Type 0 where
   left : List TreePath
   right : List TreePath
   was : old ≡ left ++ right
   size : length left ≡ n
-  is : new ≡ map move left ++ (path ∷ map move right)
+  is : new ≡ map move left ++ (added ++ map move right)
 
 abbrev down : ℕ → List TreePath → List TreePath
 down q xs = map (λ (a : TreePath). q ∷ a) xs
 
-module _ {old new : List TreePath} {n : ℕ} {move : TreePath → TreePath} {path : TreePath} (g : Grown old new n move path) where
-  grown-front : (xs : List TreePath) (m : ℕ) → length xs ≡ m → map move xs ≡ xs → Grown (xs ++ old) (xs ++ new) (m + n) move path
+module _ {old new : List TreePath} {n : ℕ} {move : TreePath → TreePath} {added : List TreePath} (g : Grown old new n move added) where
+  abbrev rest : List TreePath
+  rest = added ++ map move (g .right)
+
+  grown-front : (xs : List TreePath) (m : ℕ) → length xs ≡ m → map move xs ≡ xs → Grown (xs ++ old) (xs ++ new) (m + n) move added
   grown-front xs m l e = record {
     left = xs ++ g .left;
     right = g .right;
-    was = ap (λ (x : List TreePath). xs ++ x) (g .was) ∙ sym (append-assoc xs (g .left) (g .right));
+    was = rw (g .was) (simp append-assoc);
     size = simp length-append (ap₂ _+_ l (g .size));
-    is = rw (g .is, map-append move xs (g .left), e) (sym (append-assoc xs (map move (g .left)) (path ∷ map move (g .right))));
+    is = rw (g .is, map-append move xs (g .left), e) (simp append-assoc);
   }
 
-  grown-head : move [] ≡ [] → Grown ([] ∷ old) ([] ∷ new) (suc n) move path
+  grown-head : move [] ≡ [] → Grown ([] ∷ old) ([] ∷ new) (suc n) move added
   grown-head e = record {
     left = [] ∷ g .left;
     right = g .right;
@@ -43,13 +46,13 @@ module _ {old new : List TreePath} {n : ℕ} {move : TreePath → TreePath} {pat
     is = rw (g .is, e);
   }
 
-  grown-back : (xs : List TreePath) → map move xs ≡ xs → Grown (old ++ xs) (new ++ xs) n move path
+  grown-back : (xs : List TreePath) → map move xs ≡ xs → Grown (old ++ xs) (new ++ xs) n move added
   grown-back xs e = record {
     left = g .left;
     right = g .right ++ xs;
-    was = ap (λ (x : List TreePath). x ++ xs) (g .was) ∙ append-assoc (g .left) (g .right) xs;
+    was = rw (g .was) (simp append-assoc);
     size = g .size;
-    is = rw (g .is, map-append move (g .right) xs, e) (append-assoc (map move (g .left)) (path ∷ map move (g .right)) xs);
+    is = rw (g .is, map-append move (g .right) xs, e) (simp append-assoc);
   }
 
   map-down : (q : ℕ) (move′ : TreePath → TreePath) → ((a : TreePath) → move′ (q ∷ a) ≡ q ∷ move a) → (xs : List TreePath)
@@ -57,30 +60,23 @@ module _ {old new : List TreePath} {n : ℕ} {move : TreePath → TreePath} {pat
   map-down q move′ e [] = refl
   map-down q move′ e (a ∷ xs) = ap₂ {C = List TreePath} _∷_ (sym (e a)) (map-down q move′ e xs)
 
-  grown-down : (q : ℕ) (move′ : TreePath → TreePath) → ((a : TreePath) → move′ (q ∷ a) ≡ q ∷ move a) → Grown (down q old) (down q new) n move′ (q ∷ path)
+  grown-down : (q : ℕ) (move′ : TreePath → TreePath) → ((a : TreePath) → move′ (q ∷ a) ≡ q ∷ move a) → Grown (down q old) (down q new) n move′ (down q added)
   grown-down q move′ e = record {
     left = down q (g .left);
     right = down q (g .right);
-    was = ap (down q) (g .was) ∙ map-append (λ (a : TreePath). q ∷ a) (g .left) (g .right);
+    was = rw (g .was) (simp map-append);
     size = length-map (g .left) (λ (a : TreePath). q ∷ a) ∙ g .size;
-    is =
-        rw (
-          g .is,
-          map-append (λ (a : TreePath). q ∷ a) (map move (g .left)) (path ∷ map move (g .right)),
-          map-down q move′ e (g .left),
-          map-down q move′ e (g .right),
-        );
+    is = rw (g .is) (simp (map-append, map-down q move′ e));
   }
 
   -- ---- what an entry is afterwards
-  pub grown-length : length new ≡ suc (length old)
+  pub grown-length : length new ≡ length added + length old
   grown-length = rw (g .is, g .was) (simp (length-append, length-map) (omega arith))
 
-  pub grown-new : getD new n [] ≡ path
-  grown-new =
-      let e : n ≡ length (map move (g .left)) + 0 = omega (arith, g .size, length-map (g .left) move) in
-      ap (λ (xs : List TreePath). getD xs n []) (g .is) ∙ ap (λ (i : ℕ). getD (map move (g .left) ++ (path ∷ map move (g .right))) i []) e
-      ∙ getD-append-add (map move (g .left)) (path ∷ map move (g .right)) 0 []
+  pub grown-new : (i j : ℕ) → j ≡ n + i → i < length added → getD new j [] ≡ getD added i []
+  grown-new i j d h =
+      let e : j ≡ length (map move (g .left)) + i = omega (arith, g .size, length-map (g .left) move) in
+      rw (g .is, e) (getD-append-add (map move (g .left)) rest i [] ∙ List·getD-append added (map move (g .right)) [] i h)
 
   module _ (empty : move [] ≡ []) where
     moved-entry : (xs : List TreePath) (i : ℕ) → getD (map move xs) i [] ≡ move (getD xs i [])
@@ -90,17 +86,15 @@ module _ {old new : List TreePath} {n : ℕ} {move : TreePath → TreePath} {pat
     grown-low i h =
         let l : i < length (g .left) = omega (arith, g .size) in
         let l′ : i < length (map move (g .left)) = omega (arith, length-map (g .left) move) in
-        ap (λ (xs : List TreePath). getD xs i []) (g .is) ∙ List·getD-append (map move (g .left)) (path ∷ map move (g .right)) [] i l′
-        ∙ moved-entry (g .left) i ∙ ap move (sym (ap (λ (xs : List TreePath). getD xs i []) (g .was) ∙ List·getD-append (g .left) (g .right) [] i l))
+        rw (g .is, g .was, List·getD-append (map move (g .left)) rest [] i l′, List·getD-append (g .left) (g .right) [] i l) (moved-entry (g .left) i)
 
-    pub grown-high : (i : ℕ) → n ≤ i → getD new (suc i) [] ≡ move (getD old i [])
-    grown-high i h =
-        let a : suc i ≡ length (map move (g .left)) + suc (i - n) = omega (arith, g .size, length-map (g .left) move) in
-        let b : i ≡ length (g .left) + (i - n) = omega (arith, g .size) in
-        ap (λ (xs : List TreePath). getD xs (suc i) []) (g .is) ∙ ap (λ (m : ℕ). getD (map move (g .left) ++ (path ∷ map move (g .right))) m []) a
-        ∙ getD-append-add (map move (g .left)) (path ∷ map move (g .right)) (suc (i - n)) [] ∙ moved-entry (g .right) (i - n)
-        ∙ ap move (sym (ap (λ (xs : List TreePath). getD xs i []) (g .was) ∙ ap (λ (m : ℕ). getD (g .left ++ g .right) m []) b
-        ∙ getD-append-add (g .left) (g .right) (i - n) []))
+    pub grown-high : (i j : ℕ) → j ≡ length added + i → n ≤ i → getD new j [] ≡ move (getD old i [])
+    grown-high i j e h =
+        let at : ℕ = i - n in
+        let a : j ≡ length (map move (g .left)) + (length added + at) = omega (arith, g .size, length-map (g .left) move) in
+        let b : i ≡ length (g .left) + at = omega (arith, g .size) in
+        rw (g .is, g .was, a) (getD-append-add (map move (g .left)) rest (length added + at) [] ∙ getD-append-add added (map move (g .right)) at []
+        ∙ moved-entry (g .right) at ∙ ap move (sym (ap (λ (m : ℕ). getD (g .left ++ g .right) m []) b ∙ getD-append-add (g .left) (g .right) at [])))
 
 -- ---- what a shift moves
 moved-above : (p q : ℕ) → p ≤ q → (xs : List TreePath) → map (shift [] p) (down q xs) ≡ down (suc q) xs
@@ -142,7 +136,7 @@ down-length q v = length-map (paths own v) (λ (a : TreePath). q ∷ a) ∙ path
 module _ (f : Head → Head) (p : ℕ) (k : Key) (x : Scalar) where
   -- at place p of pairs that begin at place b
   grown-pairs : (p b q : ℕ) → b + p ≡ q → (ps : Values) → p ≤ count ps
-      → Grown (pathsIn own b ps) (pathsIn own b (putPair p k (leaf x) ps)) (ordinalsUpto own p ps) (shift [] q) (q ∷ [])
+      → Grown (pathsIn own b ps) (pathsIn own b (putPair p k (leaf x) ps)) (ordinalsUpto own p ps) (shift [] q) ((q ∷ []) ∷ [])
   grown-pairs zero b q e ps h = record {
     left = [];
     right = pathsIn own b ps;
@@ -163,13 +157,13 @@ module _ (f : Head → Head) (p : ℕ) (k : Key) (x : Scalar) where
   mutual
     -- THE LAW OF INSERTION: the paths of the values that take a number are the old ones, shifted, and the new value's
     pub grown : {v : Value} {i : ℕ} {a : TreePath} {qs : Values} → WayTo v i a qs → p ≤ count qs
-        → Grown (paths own v) (paths own (put a v)) (ordinalsBefore own a p v) (shift a p) (a ++ (p ∷ []))
+        → Grown (paths own v) (paths own (put a v)) (ordinalsBefore own a p v) (shift a p) ((a ++ (p ∷ [])) ∷ [])
     grown (found h ps c) m = grown-head (grown-pairs p 0 p (omega arith) ps m) refl
     grown (inside h {q = q} w) m = grown-head (grown-in w 0 q (omega arith) m) refl
 
     grown-in : {ps : Values} {i q : ℕ} {a : TreePath} {qs : Values} → WayIn ps i q a qs → (b t : ℕ) → b + q ≡ t → p ≤ count qs
         → Grown (pathsIn own b ps) (pathsIn own b (atPlace q (put a) ps)) (ordinalsWithin own q (ordinalsBefore own a p) ps) (shift (t ∷ a) p)
-        (t ∷ (a ++ (p ∷ [])))
+        ((t ∷ (a ++ (p ∷ []))) ∷ [])
     grown-in (first k ps {a = a} w) b t e m =
         let d : b ≡ t = omega arith in
         rw d (grown-back (grown-down (grown w m) t (shift (t ∷ a) p) (shift-same t a p)) (pathsIn own (suc t) ps) (fixed-all t (suc t) a p (omega arith) ps))

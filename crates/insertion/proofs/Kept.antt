@@ -1,5 +1,5 @@
 -- A plan stays valid by inserting, with two nodes and one number more. Assumes nothing.
-use mathlib.Core.Path.{_≡_, sym, ap, _∙_}
+use mathlib.Core.Path.{_≡_, sym, _∙_}
 use mathlib.Core.List.{List, [], _∷_}
 use mathlib.Core.Bool.{Bool, true, false, not, _||_}
 use Prim.Native.Nat.{ℕ, zero, suc, _+_, _-_, _≤_, _<_}
@@ -7,7 +7,7 @@ use native.Mathlib.Omega.{arith}
 use lib.Dec.{T, T-not, not-T}
 use lib.ListN.{length}
 use Rattle.decimal.proofs.Decide.{Order, below, above, order}
-use Rattle.format.specs.Tree.{leaf, ref, branch, none, pair, TreePath, count, nodes, nodesIn, ordinals, ordinalsIn, mapPairs}
+use Rattle.format.specs.Tree.{leaf, ref, branch, none, pair, TreePath, count, nodes, nodesIn, ordinals, ordinalsIn, mapTree, mapPairs}
 use Rattle.format.specs.Syntax.{Key, Scalar, Container, Reference, Value, Values, own, print}
 use Rattle.format.specs.Keys.{sameKey, hasKey}
 use Rattle.format.specs.Limits.{sourceLimit, depthLimit, Seen, unseen}
@@ -69,35 +69,57 @@ module _ (c : Container) (k : Key) where
         (nor-right (sameKey k j) (hasKey k (keys ps)) n) (s .4),
   )
 
--- ---- renumbering changes neither keys nor depth
-abbrev renumberedIn : (n : ℕ) → Values → Values
-renumberedIn n ps = mapPairs (λ j. j) (λ x. x) (λ h. h) (raised n) ps
+-- ---- a change of references changes neither keys nor depth
+abbrev changed : (Reference → Reference) → Value → Value
+changed f v = mapTree (λ j. j) (λ x. x) (λ h. h) f v
 
-ordinals-same : (n : ℕ) (v : Value) → ordinals own (renumbered n v) ≡ ordinals own v
-ordinals-same n v = ordinals-map (λ j. j) (λ x. x) (λ h. h) (raised n) own own (raised-own n) v
+abbrev changedIn : (Reference → Reference) → Values → Values
+changedIn f ps = mapPairs (λ j. j) (λ x. x) (λ h. h) f ps
 
+module _ (f : Reference → Reference) where
+  mutual
+    sound-changed : (v : Value) → Sound v → Sound (changed f v)
+    sound-changed (leaf x) s = s
+    sound-changed (ref r) s = tt
+    sound-changed (branch h ps) s = (s .0, sound-changed-in (h .container) [] ps (s .1))
+
+    sound-changed-in : (c : Container) (js : List Key) (ps : Values) → SoundIn c js ps → SoundIn c js (changedIn f ps)
+    sound-changed-in c js none s = tt
+    sound-changed-in c js (pair k v ps) s = (s .0, s .1, s .2, sound-changed v (s .3), sound-changed-in c (k ∷ js) ps (s .4))
+
+  mutual
+    shallow-changed : (d : ℕ) (v : Value) → Shallow d v → Shallow d (changed f v)
+    shallow-changed d (leaf x) s = s
+    shallow-changed d (ref r) s = s
+    shallow-changed d (branch h ps) s = (s .0, shallow-changed-in (d - 1) ps (s .1))
+
+    shallow-changed-in : (d : ℕ) (ps : Values) → ShallowIn d ps → ShallowIn d (changedIn f ps)
+    shallow-changed-in d none s = tt
+    shallow-changed-in d (pair k v ps) s = (shallow-changed d v (s .0), shallow-changed-in d ps (s .1))
+
+  -- and one that keeps which references take a number changes no number
+  module _ (same : (r : Reference) → own (f r) ≡ own r) where
+    ordinals-changed : (v : Value) → ordinals own (changed f v) ≡ ordinals own v
+    ordinals-changed v = ordinals-map (λ j. j) (λ x. x) (λ h. h) f own own same v
+
+    -- where all that is named below n stays, references before n stay backward
+    module _ (n : ℕ) (low : (r : Reference) → r .named < n → f r ≡ r) where
+      mutual
+        backward-before : (seen : Seen) (v : Value) → seen + ordinals own v < n → Backward seen v → Backward seen (changed f v)
+        backward-before t (leaf x) m b = tt
+        backward-before t (ref r) m b = rw (low r (omega arith)) b
+        backward-before t (branch h ps) m b = backward-before-in (suc t) ps (omega arith) b
+
+        backward-before-in : (seen : Seen) (ps : Values) → seen + ordinalsIn own ps < n → BackwardIn seen ps → BackwardIn seen (changedIn f ps)
+        backward-before-in t none m b = tt
+        backward-before-in t (pair k v ps) m b =
+            (backward-before t v (omega arith) (b .0), rw (ordinals-changed v) (backward-before-in (t + ordinals own v) ps (omega arith) (b .1)))
+
+-- ---- references raised stay backward
 module _ (n : ℕ) where
-  mutual
-    sound-renumbered : (v : Value) → Sound v → Sound (renumbered n v)
-    sound-renumbered (leaf x) s = s
-    sound-renumbered (ref r) s = tt
-    sound-renumbered (branch h ps) s = (s .0, sound-renumbered-in (h .container) [] ps (s .1))
+  ordinals-same : (v : Value) → ordinals own (renumbered n v) ≡ ordinals own v
+  ordinals-same v = ordinals-changed (raised n) (raised-own n) v
 
-    sound-renumbered-in : (c : Container) (js : List Key) (ps : Values) → SoundIn c js ps → SoundIn c js (renumberedIn n ps)
-    sound-renumbered-in c js none s = tt
-    sound-renumbered-in c js (pair k v ps) s = (s .0, s .1, s .2, sound-renumbered v (s .3), sound-renumbered-in c (k ∷ js) ps (s .4))
-
-  mutual
-    shallow-renumbered : (d : ℕ) (v : Value) → Shallow d v → Shallow d (renumbered n v)
-    shallow-renumbered d (leaf x) s = s
-    shallow-renumbered d (ref r) s = s
-    shallow-renumbered d (branch h ps) s = (s .0, shallow-renumbered-in (d - 1) ps (s .1))
-
-    shallow-renumbered-in : (d : ℕ) (ps : Values) → ShallowIn d ps → ShallowIn d (renumberedIn n ps)
-    shallow-renumbered-in d none s = tt
-    shallow-renumbered-in d (pair k v ps) s = (shallow-renumbered d v (s .0), shallow-renumbered-in d ps (s .1))
-
-  -- ---- references stay backward
   taken-more : (t : ℕ) (r : Reference) → Taken t r → Taken (suc t) (raised n r)
   taken-more t r b = go (order (r .named) n)
     where
@@ -112,23 +134,15 @@ module _ (n : ℕ) where
     backward-after t (ref r) b = taken-more t r b
     backward-after t (branch h ps) b = backward-after-in (suc t) ps b
 
-    backward-after-in : (seen : Seen) (ps : Values) → BackwardIn seen ps → BackwardIn (suc seen) (renumberedIn n ps)
+    backward-after-in : (seen : Seen) (ps : Values) → BackwardIn seen ps → BackwardIn (suc seen) (changedIn (raised n) ps)
     backward-after-in t none b = tt
     backward-after-in t (pair k v ps) b =
         let e : suc t + ordinals own v ≡ suc (t + ordinals own v) = omega arith in
-        (backward-after t v (b .0), rw (ordinals-same n v, e) (backward-after-in (t + ordinals own v) ps (b .1)))
+        (backward-after t v (b .0), rw (ordinals-same v, e) (backward-after-in (t + ordinals own v) ps (b .1)))
 
   -- before it nothing changes
-  mutual
-    backward-before : (seen : Seen) (v : Value) → seen + ordinals own v < n → Backward seen v → Backward seen (renumbered n v)
-    backward-before t (leaf x) m b = tt
-    backward-before t (ref r) m b = rw (raised-low n r (omega arith)) b
-    backward-before t (branch h ps) m b = backward-before-in (suc t) ps (omega arith) b
-
-    backward-before-in : (seen : Seen) (ps : Values) → seen + ordinalsIn own ps < n → BackwardIn seen ps → BackwardIn seen (renumberedIn n ps)
-    backward-before-in t none m b = tt
-    backward-before-in t (pair k v ps) m b =
-        (backward-before t v (omega arith) (b .0), rw (ordinals-same n v) (backward-before-in (t + ordinals own v) ps (omega arith) (b .1)))
+  unraised : (seen : Seen) (v : Value) → seen + ordinals own v < n → Backward seen v → Backward seen (renumbered n v)
+  unraised t v m b = backward-before (raised n) (raised-own n) n (raised-low n) t v m b
 
 -- ---- one pair more
 module _ (p : ℕ) (k : Key) (x : Scalar) where
@@ -177,15 +191,15 @@ module _ (p : ℕ) (k : Key) (x : Scalar) where
     nodes-put-in (later j v e w) = omega (arith, nodes-put-in w)
 
   ordinals-put : {v : Value} {i : ℕ} {a : TreePath} {qs : Values} → WayTo v i a qs → p ≤ count qs → ordinals own (put a v) ≡ suc (ordinals own v)
-  ordinals-put {v} {a = a} w m = sym (paths-length own (put a v)) ∙ grown-length (grown countShortest p k x w m) ∙ ap suc (paths-length own v)
+  ordinals-put {v} {a = a} w m = omega (arith, paths-length own (put a v), grown-length (grown countShortest p k x w m), paths-length own v)
 
   module _ (n : ℕ) where
     backward-put : (p : ℕ) (seen : Seen) (ps : Values) → p ≤ count ps → n ≡ suc (seen + ordinalsUpto own p ps) → BackwardIn seen ps
-        → BackwardIn seen (renumberedIn n (putPair p k (leaf x) ps))
+        → BackwardIn seen (changedIn (raised n) (putPair p k (leaf x) ps))
     backward-put zero t ps m e b = let i : t + 1 ≡ suc t = omega arith in (tt, rw i (backward-after-in n t ps b))
     backward-put (suc p) t none m e b = absurd (omega arith)
     backward-put (suc p) t (pair j v ps) m e b =
-        (backward-before n t v (omega arith) (b .0), rw (ordinals-same n v) (backward-put p (t + ordinals own v) ps (omega arith) (omega arith) (b .1)))
+        (unraised n t v (omega arith) (b .0), rw (ordinals-same n v) (backward-put p (t + ordinals own v) ps (omega arith) (omega arith) (b .1)))
 
     mutual
       backward-put-at : {v : Value} {i : ℕ} {a : TreePath} {qs : Values} → WayTo v i a qs → p ≤ count qs → (seen : Seen)
@@ -196,12 +210,12 @@ module _ (p : ℕ) (k : Key) (x : Scalar) where
 
       backward-put-in : {ps : Values} {i q : ℕ} {a : TreePath} {qs : Values} → WayIn ps i q a qs → p ≤ count qs → (seen : Seen)
           → n ≡ suc (seen + ordinalsWithin own q (ordinalsBefore own a p) ps) → BackwardIn seen ps
-          → BackwardIn seen (renumberedIn n (atPlace q (put a) ps))
+          → BackwardIn seen (changedIn (raised n) (atPlace q (put a) ps))
       backward-put-in (first j {v} ps {a = a} w) m t e b =
           let i : t + suc (ordinals own v) ≡ suc (t + ordinals own v) = omega arith in
           (backward-put-at w m t e (b .0), rw (ordinals-same n (put a v), ordinals-put w m, i) (backward-after-in n (t + ordinals own v) ps (b .1)))
       backward-put-in (later j v d w) m t e b =
-          (backward-before n t v (omega arith) (b .0), rw (ordinals-same n v) (backward-put-in w m (t + ordinals own v) (omega arith) (b .1)))
+          (unraised n t v (omega arith) (b .0), rw (ordinals-same n v) (backward-put-in w m (t + ordinals own v) (omega arith) (b .1)))
 
 -- ---- the whole plan
 module _ {v : Value} {node : ℕ} {a : TreePath} {qs : Values} (way : WayTo v node a qs) (p : ℕ) (within : p ≤ count qs) (k : Key) (x : Scalar) where
@@ -224,8 +238,8 @@ module _ {v : Value} {node : ℕ} {a : TreePath} {qs : Values} (way : WayTo v no
       let w : Value = insert a p k x v in
       record {
         short = short;
-        shallow = shallow-renumbered (newOrdinal a p v) depthLimit (put p k x a v) (shallow-put-at p k x way depthLimit deep (f .shallow));
+        shallow = shallow-changed (raised (newOrdinal a p v)) depthLimit (put p k x a v) (shallow-put-at p k x way depthLimit deep (f .shallow));
         backward = backward-insert (f .backward);
-        sound = sound-renumbered (newOrdinal a p v) (put p k x a v) (sound-put-at p k x way kf xf new (f .sound));
+        sound = sound-changed (raised (newOrdinal a p v)) (put p k x a v) (sound-put-at p k x way kf xf new (f .sound));
         limited = limited w unseen (backward-insert (f .backward)) (omega (arith, write-longer w []));
       }

@@ -5,6 +5,7 @@ pub mod Meanings
 pub mod Sizes
 mod Kept
 pub mod PairTexts
+mod Told
 pub mod Steps
 pub mod Inserting
 pub mod Refusing

@@ -62,15 +62,14 @@ abbrev naming : Reference → TreePath → ReferenceMeaning
 naming r a = record { kind = r .kind; names = a }
 
 -- "names the value it named before": a reference, raised, names the shifted path
-names-shifted : {old new : List TreePath} {n : ℕ} {path : TreePath} (a : TreePath) (p : ℕ) → Grown old new n (shift a p) path → (r : Reference) → 1 ≤ r .named
-    → shifted a p (referenceMeaning old r) ≡ referenceMeaning new (raised (suc n) r)
+names-shifted : {old new : List TreePath} {n : ℕ} {path : TreePath} (a : TreePath) (p : ℕ) → Grown old new n (shift a p) (path ∷ []) → (r : Reference)
+    → 1 ≤ r .named → shifted a p (referenceMeaning old r) ≡ referenceMeaning new (raised (suc n) r)
 names-shifted {old} {new} {n} a p g r h = go (order (r .named) (suc n))
   where
     go : Order (r .named) (suc n) → shifted a p (referenceMeaning old r) ≡ referenceMeaning new (raised (suc n) r)
     go (below s) = ap (naming r) (sym (grown-low g (shift-empty a p) (r .named - 1) (omega arith))) ∙ ap (referenceMeaning new) (sym (raised-low (suc n) r s))
     go (above s) =
-        let e : suc (r .named - 1) ≡ suc (r .named) - 1 = omega arith in
-        ap (naming r) (sym (grown-high g (shift-empty a p) (r .named - 1) (omega arith)) ∙ ap (λ (i : ℕ). getD new i []) e)
+        ap (naming r) (sym (grown-high g (shift-empty a p) (r .named - 1) (suc (r .named) - 1) (omega arith) (omega arith)))
         ∙ ap (referenceMeaning new) (sym (raised-high (suc n) r s))
 
 module _ {v : Value} {node : ℕ} {a : TreePath} {qs : Values} (way : WayTo v node a qs) (p : ℕ) (within : p ≤ count qs) (k : Key) (x : Scalar) where
@@ -81,7 +80,7 @@ module _ {v : Value} {node : ℕ} {a : TreePath} {qs : Values} (way : WayTo v no
   unfolding insert
   same-paths = paths-map (λ j. j) (λ y. y) (λ h. h) (raised (newOrdinal a p v)) own own (raised-own (newOrdinal a p v)) opened
 
-  insert-grown : Grown (paths own v) (paths own (insert a p k x v)) (ordinalsBefore own a p v) (shift a p) (a ++ (p ∷ []))
+  insert-grown : Grown (paths own v) (paths own (insert a p k x v)) (ordinalsBefore own a p v) (shift a p) ((a ++ (p ∷ [])) ∷ [])
   insert-grown = rw same-paths (grown countShortest p k x way within)
 
   raises : Reference → ReferenceMeaning
@@ -106,14 +105,10 @@ module _ {v : Value} {node : ℕ} {a : TreePath} {qs : Values} (way : WayTo v no
 
   -- "The new value has number k, and old numbers from k on are one higher."
   pub new-number : getD (paths own (insert a p k x v)) (newOrdinal a p v - 1) [] ≡ a ++ (p ∷ [])
-  new-number =
-      let e : newOrdinal a p v - 1 ≡ ordinalsBefore own a p v = omega arith in
-      ap (λ (i : ℕ). getD (paths own (insert a p k x v)) i []) e ∙ grown-new insert-grown
+  new-number = grown-new insert-grown 0 (newOrdinal a p v - 1) (omega arith) (omega arith)
 
   pub lower-numbers : (t : ℕ) → 1 ≤ t → t < newOrdinal a p v → getD (paths own (insert a p k x v)) (t - 1) [] ≡ shift a p (getD (paths own v) (t - 1) [])
   lower-numbers t h l = grown-low insert-grown (shift-empty a p) (t - 1) (omega arith)
 
   pub higher-numbers : (t : ℕ) → newOrdinal a p v ≤ t → getD (paths own (insert a p k x v)) t [] ≡ shift a p (getD (paths own v) (t - 1) [])
-  higher-numbers t h =
-      let e : t ≡ suc (t - 1) = omega arith in
-      ap (λ (i : ℕ). getD (paths own (insert a p k x v)) i []) e ∙ grown-high insert-grown (shift-empty a p) (t - 1) (omega arith)
+  higher-numbers t h = grown-high insert-grown (shift-empty a p) (t - 1) t (omega arith) (omega arith)

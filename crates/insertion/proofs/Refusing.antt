@@ -1,19 +1,16 @@
 -- Inserting is refused exactly where a row of paper 01's table holds and none before it does. Assumes nothing.
-use mathlib.Core.Path.{_≡_, refl, _∙_, subst}
-use mathlib.Core.Logic.{_⊎_, inl, inr}
+use mathlib.Core.Path.{_≡_, _∙_, subst}
+use mathlib.Core.Logic.{_⊎_}
 use mathlib.Core.List.{List}
-use mathlib.Core.Bool.{Bool, true, false, _&&_}
 use Prim.Native.Nat.{ℕ, _≤_, _<_}
-use native.Mathlib.Omega.{arith}
-use lib.Dec.{not-T, leb, leb→le}
 use lib.ListN.{length}
-use borrow.Author.Tests.{leb-false, le-leb, lt-leb}
-use Rattle.decimal.proofs.Decide.{Test, passed, failed, test, T-false, and-right}
+use borrow.Author.Tests.{le-leb}
 use Rattle.format.specs.Syntax.{Key, Scalar, Value, print}
 use Rattle.format.specs.Limits.{sourceLimit, Terms}
-use Rattle.format.specs.Answer.{Answer, ok, refused, _>>=_, require}
+use Rattle.format.specs.Answer.{ok, refused}
 use Rattle.format.specs.Edit.{insert}
-use Rattle.format.specs.Writing.{Site, fitsIn, withRoom, Insertion, insertedPlan, insertionOf, insertBytes}
+use Rattle.format.specs.Writing.{Site, fitsIn, withRoom, insertedPlan, insertionOf, insertBytes}
+use Rattle.insertion.proofs.Told.{Told, through, row-of, bind, ask, too-long, refuses-bytes}
 use Rattle.insertion.proofs.Steps.{WithNodes, StepRow, step-row, passes, steps-pass, row-step}
 
 module _ (terms : Terms) (room : ℕ) (source : List ℕ) (node place : ℕ) (key value : List ℕ) where
@@ -24,37 +21,18 @@ module _ (terms : Terms) (room : ℕ) (source : List ℕ) (node place : ℕ) (ke
         → (room < length (print (insert (s .path) place k x old))) ⊎ (sourceLimit < length (print (insert (s .path) place k x old))) → RefusedRow 14 0
 
   -- ---- a refusal has its row
-  too-long : (n : ℕ) → fitsIn room n ≡ false → (room < n) ⊎ (sourceLimit < n)
-  too-long n e = go (test (leb n room))
-    where
-      go : Test (leb n room) → (room < n) ⊎ (sourceLimit < n)
-      go (passed t) = inr (leb-false n sourceLimit (rw (t, _&&_) at e))
-      go (failed t) = inl (leb-false n room t)
-
-  abbrev Told : Answer (List ℕ) → Type 0
-  Told (ok bytes) = Unit {0}
-  Told (refused n p) = RefusedRow n p
-
-  written : (i : Insertion) → insertionOf terms source node place key value ≡ ok i → (b : Bool) → fitsIn room (length (print (insertedPlan place i))) ≡ b
-      → Told (require b 14 0 >>= λ u. ok (print (insertedPlan place i)))
-  written i e true f = tt
-  written i e false f =
-      noBytes (i .plan) (i .site) (i .key) (i .value) (passes terms source node place key value i e) (too-long (length (print (insertedPlan place i))) f)
-
-  told : (a : Answer Insertion) → insertionOf terms source node place key value ≡ a → Told (a >>= λ i. withRoom room (print (insertedPlan place i)))
-  told (ok i) e = written i e (fitsIn room (length (print (insertedPlan place i)))) refl
-  told (refused n p) e = step n p (step-row terms source node place key value n p e)
+  told : Told RefusedRow (λ (bytes : List ℕ). Unit {0}) (insertBytes terms room source node place key value)
+  unfolding insertBytes
+  told =
+      bind (insertionOf terms source node place key value) _ (λ n p e. step n p (step-row terms source node place key value n p e)) (λ i e.
+      let n : ℕ = length (print (insertedPlan place i)) in
+      let passed = passes terms source node place key value i e in
+      ask (fitsIn room n) 14 0 _ (λ f. noBytes (i .plan) (i .site) (i .key) (i .value) passed (too-long room n f)) (λ f. through _ tt))
 
   pub refused-row : (n p : ℕ) → insertBytes terms room source node place key value ≡ refused n p → RefusedRow n p
-  unfolding insertBytes
-  refused-row n p e = subst Told e (told (insertionOf terms source node place key value) refl)
+  refused-row n p e = row-of (subst (Told RefusedRow (λ (bytes : List ℕ). Unit {0})) e told)
 
   -- ---- where a row holds there is that refusal, and where none does the insertion
-  refuses-bytes : (n : ℕ) → (room < n) ⊎ (sourceLimit < n) → fitsIn room n ≡ false
-  refuses-bytes n (inl h) = rw (lt-leb n room h, _&&_)
-  refuses-bytes n (inr h) =
-      T-false (fitsIn room n) (not-T (fitsIn room n) (λ t. let m = leb→le n sourceLimit (and-right (leb n room) (leb n sourceLimit) t) in omega arith))
-
   module _ (old : Value) (s : Site) (k : Key) (x : Scalar) (w : WithNodes terms source node place key value old s k x) where
     abbrev new : List ℕ
     new = print (insert (s .path) place k x old)
@@ -71,4 +49,4 @@ module _ (terms : Terms) (room : ℕ) (source : List ℕ) (node place : ℕ) (ke
   pub row-refused : (n p : ℕ) → RefusedRow n p → insertBytes terms room source node place key value ≡ refused n p
   unfolding insertBytes
   row-refused n p (step m q r) = rw (row-step terms source node place key value m q r)
-  row-refused n p (noBytes old s k x w h) = to-write old s k x w ∙ rw (refuses-bytes (length (print (insert (s .path) place k x old))) h)
+  row-refused n p (noBytes old s k x w h) = to-write old s k x w ∙ rw (refuses-bytes room (length (print (insert (s .path) place k x old))) h)

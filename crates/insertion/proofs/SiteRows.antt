@@ -1,5 +1,5 @@
 -- Where the array of a node stands in the table and in the bytes. Assumes nothing.
-use mathlib.Core.Path.{_≡_, refl, sym, ap, _∙_, subst}
+use mathlib.Core.Path.{_≡_, refl, sym, ap, ap₂, _∙_, subst}
 use mathlib.Core.Logic.{_⊎_, inl, inr}
 use mathlib.Core.List.{List, [], _∷_, _++_}
 use mathlib.Core.Bool.{Bool, true, false}
@@ -26,7 +26,7 @@ use Rattle.format.proofs.Rows.{at-first}
 use Rattle.format.proofs.Places.{InTable, PairsInTable, contents-in, first-in, others-in, contents-text, value-text, others-text, whole}
 use Rattle.format.proofs.Tables.{end-is}
 use Rattle.insertion.specs.Ways.{WayTo, found, inside, WayIn, first, later}
-use Rattle.insertion.proofs.Arrays.{nodes-inside}
+use Rattle.insertion.proofs.Arrays.{locates, nodes-inside}
 
 -- ---- the array's row, the rows of its pairs and their bytes
 module _ (rows : List Node) (to : ℕ → ℕ) (source : List ℕ) where
@@ -232,6 +232,15 @@ unfolding tableOf
 no-array v node n p e =
     let r = refused-at v node n p e in
     (r .0, r .1, λ h t. let a = array-at (tableOf v) (targetOf v) v 0 0 1 node node (omega arith) (whole v) h t in not-both (sym e ∙ a .1))
+
+pub refuses-array : (v : Value) (node : ℕ) → (node < nodes v → nodeAt (tableOf v) node .tag ≡ tag Kind.array → ⊥) → arrayAt node v ≡ refused 11 0
+refuses-array v node f = by (arrayAt node v) refl
+  where
+    by : (a : Answer Site) → arrayAt node v ≡ a → a ≡ refused 11 0
+    by (ok s) e =
+        let way = locates v node s e in
+        absurd (f (omega (arith, nodes-inside way)) (ap (λ (y : Node). y .tag) (at-first (tableOf v) node _ _ _ (in-plan v node s way .rows))))
+    by (refused n p) e = let r = refused-at v node n p e in ap₂ refused (r .0) (r .1)
 
 -- ---- what a valid plan says of the array's pairs
 pub record ValidPairs (ps : Values) : Type 0 where

@@ -1,5 +1,5 @@
 -- The steps of inserting before 14: a refusal has its row, and where no row holds they pass. Assumes nothing.
-use mathlib.Core.Path.{_≡_, refl, sym, ap, ap₂, _∙_, subst}
+use mathlib.Core.Path.{_≡_, refl, sym, ap, _∙_, subst}
 use mathlib.Core.Logic.{_⊎_, inl, inr}
 use mathlib.Core.List.{List, [], _∷_, List·Memᴰ, List·Memᴰ·head, List·Memᴰ·tail, List·Memᴰ·cases-cons, List·Memᴰ·not-nil}
 use mathlib.Core.Bool.{Bool, true, false, not, _||_}
@@ -15,19 +15,19 @@ use Rattle.format.specs.Syntax.{Key, Scalar, Value, Values, writeKey, writeScal
 use Rattle.format.specs.Keys.{keyMeaning, sameKey, hasKey}
 use Rattle.format.specs.Limits.{depthLimit, Terms}
 use Rattle.format.specs.Fits.{KeyFits, ScalarFits, IsPlan}
-use Rattle.format.specs.Answer.{Answer, ok, refused, _>>=_, require}
+use Rattle.format.specs.Answer.{ok, refused}
 use Rattle.format.specs.Read.{read}
-use Rattle.format.specs.Table.{Node, tableOf}
+use Rattle.format.specs.Table.{tableOf}
 use Rattle.format.specs.Shows.{nodeAt}
 use Rattle.format.specs.Edit.{keys}
 use Rattle.format.specs.Writing.{Site, arrayAt, keyOf, scalarOf, Insertion, insertionOf}
 use Rattle.format.proofs.Answers.{not-both}
 use Rattle.format.proofs.Keys.{equal-keys}
-use Rattle.format.proofs.Rows.{at-first}
 use Rattle.format.proofs.Unique.{accepted-exactly}
 use Rattle.insertion.specs.Ways.{WayTo}
 use Rattle.insertion.proofs.Arrays.{locates, way-given}
-use Rattle.insertion.proofs.SiteRows.{in-plan, no-array, site-inside, site-depth}
+use Rattle.insertion.proofs.SiteRows.{no-array, refuses-array, site-depth}
+use Rattle.insertion.proofs.Told.{Told, through, row-of, passed-of, bind, ask, numbered}
 use Rattle.insertion.proofs.PairTexts.{key-of, scalar-of, key-text, scalar-text, key-refused, scalar-refused, texts-refused}
 
 -- ---- 9: a key that means the same
@@ -106,38 +106,25 @@ module _ (terms : Terms) (source : List ℕ) (node place : ℕ) (key value : Lis
     noNodes : (old : Value) (s : Site) (k : Key) (x : Scalar) → WithDepth old s k x → terms .capacity < nodes old + 2 → StepRow 7 0
 
   -- ---- a refusal has its row, and what is not refused has passed the steps
-  abbrev Told : Answer Insertion → Type 0
-  Told (ok i) = WithNodes (i .plan) (i .site) (i .key) (i .value)
-  Told (refused n p) = StepRow n p
+  abbrev Passed : Insertion → Type 0
+  Passed i = WithNodes (i .plan) (i .site) (i .key) (i .value)
 
-  bind : {A : Type 0} (a : Answer A) (f : A → Answer Insertion) → ((n p : ℕ) → a ≡ refused n p → StepRow n p) → ((x : A) → a ≡ ok x → Told (f x))
-      → Told (a >>= f)
-  bind (ok x) f h g = g x refl
-  bind (refused n p) f h g = h n p refl
-
-  ask : (t : Bool) (n p : ℕ) (f : Unit {0} → Answer Insertion) → (t ≡ false → StepRow n p) → (t ≡ true → Told (f tt)) → Told (require t n p >>= f)
-  ask true n p f h g = g refl
-  ask false n p f h g = h refl
-
-  numbered : (n p m : ℕ) → (n ≡ m) × (p ≡ 0) → StepRow m 0 → StepRow n p
-  numbered n p m e r = subst (λ (q : ℕ). StepRow q p) (sym (e .0)) (subst (λ (q : ℕ). StepRow m q) (sym (e .1)) r)
-
-  told : Told (insertionOf terms source node place key value)
+  told : Told StepRow Passed (insertionOf terms source node place key value)
   unfolding insertionOf
   told =
       bind (read terms source) _ (λ n p e. reading n p e) (λ v a.
       let was : IsPlan terms source v = accepted-exactly terms source v .0 a in
-      bind (arrayAt node v) _ (λ n p e. let r = no-array v node n p e in numbered n p 11 (r .0, r .1) (noArray v was (r .2))) (λ s b.
+      bind (arrayAt node v) _ (λ n p e. let r = no-array v node n p e in numbered StepRow n p 11 (r .0, r .1) (noArray v was (r .2))) (λ s b.
       let way : WayTo v node (s .path) (s .pairs) = locates v node s b in
       let array : AtArray v s = record { was = was; at = way } in
       let ps : Values = s .pairs in
       ask (leb place (count ps)) 12 0 _ (λ e. noPlace v s array (leb-false place (count ps) e)) (λ c.
       let spot : AtPlace v s = record { array = array; within = leb-true place (count ps) c } in
-      bind (keyOf key) _ (λ n p e. numbered n p 13 (key-refused key n p e) (unfit v s spot (λ k x f t g u. not-both (sym e ∙ ap keyOf t ∙ key-text k f))))
-      (λ k d.
+      bind (keyOf key) _
+      (λ n p e. numbered StepRow n p 13 (key-refused key n p e) (unfit v s spot (λ k x f t g u. not-both (sym e ∙ ap keyOf t ∙ key-text k f)))) (λ k d.
       let kt = key-of key k d in
-      bind (scalarOf value) _
-      (λ n p e. numbered n p 13 (scalar-refused value n p e) (unfit v s spot (λ j x f t g u. not-both (sym e ∙ ap scalarOf u ∙ scalar-text x g)))) (λ x f.
+      bind (scalarOf value) _ (λ n p e.
+      numbered StepRow n p 13 (scalar-refused value n p e) (unfit v s spot (λ j x f t g u. not-both (sym e ∙ ap scalarOf u ∙ scalar-text x g)))) (λ x f.
       let xt = scalar-of value x f in
       let pair : WithPair v s k x = record { spot = spot; key-is = kt .0; key-fits = kt .1; value-is = xt .0; value-fits = xt .1 } in
       ask (not (hasKey k (keys ps))) 9 0 _
@@ -147,13 +134,13 @@ module _ (terms : Terms) (source : List ℕ) (node place : ℕ) (key value : Lis
       tooDeep v s k x fresh (omega (arith, site-depth v node s (was .fits .valid) way, ltb-false (suc (length (s .path))) depthLimit e))) (λ h.
       let level : WithDepth v s k x = record { fresh = fresh; shallow = ltb-true (suc (length (s .path))) depthLimit h } in
       ask (leb (nodes v + 2) (terms .capacity)) 7 0 _ (λ e. noNodes v s k x level (leb-false (nodes v + 2) (terms .capacity) e)) (λ i.
-      record { level = level; small = leb-true (nodes v + 2) (terms .capacity) i }))))))))
+      through _ (record { level = level; small = leb-true (nodes v + 2) (terms .capacity) i })))))))))
 
   pub step-row : (n p : ℕ) → insertionOf terms source node place key value ≡ refused n p → StepRow n p
-  step-row n p e = subst Told e told
+  step-row n p e = row-of (subst (Told StepRow Passed) e told)
 
   pub passes : (i : Insertion) → insertionOf terms source node place key value ≡ ok i → WithNodes (i .plan) (i .site) (i .key) (i .value)
-  passes i e = subst Told e told
+  passes i e = passed-of (subst (Told StepRow Passed) e told)
 
   -- ---- where a row holds there is that refusal, and where none does the insertion
   reads : {old : Value} {s : Site} → AtArray old s → read terms source ≡ ok old
@@ -195,21 +182,11 @@ module _ (terms : Terms) (source : List ℕ) (node place : ℕ) (key value : Lis
         le-leb (nodes old + 2) (terms .capacity) (w .small),
       )
 
-  is-refused : {A : Type 0} (a : Answer A) → ((x : A) → a ≡ ok x → ⊥) → (m : ℕ) → ((n p : ℕ) → a ≡ refused n p → (n ≡ m) × (p ≡ 0)) → a ≡ refused m 0
-  is-refused (ok x) f m g = absurd (f x refl)
-  is-refused (refused n p) f m g = let e = g n p refl in ap₂ refused (e .0) (e .1)
-
-  refuses-array : (old : Value) → (node < nodes old → nodeAt (tableOf old) node .tag ≡ tag Kind.array → ⊥) → arrayAt node old ≡ refused 11 0
-  refuses-array old f = is-refused (arrayAt node old)
-      (λ s e. let h = in-plan old node s (locates old node s e) in f (omega (arith, site-inside old node s (locates old node s e)))
-      (ap (λ (y : Node). y .tag) (at-first (tableOf old) node _ _ _ (h .rows))))
-      11 (λ n p e. let r = no-array old node n p e in (r .0, r .1))
-
   -- "A number is given exactly when its row holds and nothing earlier in the order does."
   pub row-step : (n p : ℕ) → StepRow n p → insertionOf terms source node place key value ≡ refused n p
   unfolding insertionOf
   row-step n p (reading m q e) = rw e
-  row-step n p (noArray old w f) = rw (accepted-exactly terms source old .1 w, refuses-array old f)
+  row-step n p (noArray old w f) = rw (accepted-exactly terms source old .1 w, refuses-array old node f)
   row-step n p (noPlace old s a h) = rw (reads a, at-site a, lt-leb place (count (s .pairs)) h)
   row-step n p (unfit old s a f) = rw (reads (a .array), at-site (a .array), placed a) (texts-refused key value _ f)
   row-step n p (sameKeyed old s k x a j m e) =
