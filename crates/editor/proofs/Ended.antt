@@ -37,6 +37,7 @@ use Rattle.rewriting.specs.Output.{Puts}
 use Rattle.rewriting.specs.Rewriting.{changedText}
 use Rattle.rewriting.specs.Edited.{canonicalText, editedText, writable, editedAnswer, Edits, Parted}
 use Rattle.rewriting.specs.declared.splice.Splice.{Splice}
+use Rattle.rewriting.proofs.Anywhere.{canonical-anywhere}
 use Rattle.rewriting.proofs.Editable.{answer-by, output-by, by-stands, edited-most}
 use Rattle.rewriting.proofs.Measures.{texts-inside, canonical-text-most}
 use Rattle.placing.specs.declared.Placing.{Placing}
@@ -131,50 +132,50 @@ pub is-short : (room source key value : ℕ) → sourceLimit ≤ room → source
 is-short room source key value h i j e = record { enough = h; low = omega (arith, i, j, leb→le value 2000 (T-of e)) }
 
 -- an edit of a plan is one that is written, unless its texts are too long
-fit-writable : (source : List ℕ) (e : Edit) (key value : List ℕ) → EditFits source e key value → length key ≤ sourceLimit → length value ≤ sourceLimit
+fit-writable : (source t : List ℕ) (e : Edit) (key value : List ℕ) → EditFits source t e key value → length key ≤ sourceLimit → length value ≤ sourceLimit
     → writable (length source) e (length key) (length value) ≡ true
-fit-writable source e key value z h i = by-stands (length source) e (length key) (length value) (z .short) h i ∙ z .inside
+fit-writable source t e key value z h i = by-stands (length source) e (length key) (length value) (z .short) h i ∙ z .inside
 
-short-room : {room : ℕ} (source : List ℕ) (e : Edit) (key value : List ℕ) → Short room (length source) (length key) (length value) → EditFits source e key value
-    → fitsIn room (length (editedText source e key value)) ≡ true
-short-room {room} source e key value h z =
-    let f = fit-writable source e key value z (omega (arith, h .low)) (omega (arith, h .low)) in
-    let n : ℕ = length (editedText source e key value) in
-    let m : n ≤ sourceLimit = omega (arith, edited-most source e key value f (z .parted), h .low) in
+short-room : {room : ℕ} (source t : List ℕ) (e : Edit) (key value : List ℕ) → Short room (length source) (length key) (length value) → EditFits source t e key value
+    → fitsIn room (length (editedText source t e key value)) ≡ true
+short-room {room} source t e key value h z =
+    let f = fit-writable source t e key value z (omega (arith, h .low)) (omega (arith, h .low)) in
+    let n : ℕ = length (editedText source t e key value) in
+    let m : n ≤ sourceLimit = omega (arith, edited-most source t e key value f (z .parted), h .low) in
     rw (le-leb n room (omega (arith, m, h .enough)), le-leb n sourceLimit m)
 
 pub canonical-spared : (room source key value : ℕ) (e : Edit) → e ≡ Edit.Canonical → fitsIn room source ≡ true → Spared room e source key value
 canonical-spared room source key value e c f = subst (λ (x : Edit). Spared room x source key value) (sym c) (shrinks f)
 
-shrinks-room : (room : ℕ) (source : List ℕ) → fitsIn room (length source) ≡ true → fitsIn room (length (canonicalText source)) ≡ true
-shrinks-room room source h =
-    let n : ℕ = length (canonicalText source) in
+shrinks-room : (room : ℕ) (source t : List ℕ) → fitsIn room (length source) ≡ true → fitsIn room (length (canonicalText t source)) ≡ true
+shrinks-room room source t h =
+    let n : ℕ = length (canonicalText t source) in
     let i : length source ≤ room = leb→le (length source) room (and-left (leb (length source) room) (leb (length source) sourceLimit) (T-of h)) in
     let j : length source ≤ sourceLimit =
     leb→le (length source) sourceLimit (and-right (leb (length source) room) (leb (length source) sourceLimit) (T-of h)) in
-    rw (le-leb n room (omega (arith, canonical-text-most source, i)), le-leb n sourceLimit (omega (arith, canonical-text-most source, j)))
+    rw (le-leb n room (omega (arith, canonical-text-most t source, i)), le-leb n sourceLimit (omega (arith, canonical-text-most t source, j)))
 
-pub spared-room : {room : ℕ} (source : List ℕ) (e : Edit) (key value : List ℕ) → Spared room e (length source) (length key) (length value)
-    → EditFits source e key value → fitsIn room (length (editedText source e key value)) ≡ true
-spared-room {room} source Edit.Canonical key value (shrinks h) z = shrinks-room room source h
-spared-room source e key value (short h) z = short-room source e key value h z
+pub spared-room : {room : ℕ} (source t : List ℕ) (e : Edit) (key value : List ℕ) → Spared room e (length source) (length key) (length value)
+    → EditFits source t e key value → fitsIn room (length (editedText source t e key value)) ≡ true
+spared-room {room} source t Edit.Canonical key value (shrinks h) z = shrinks-room room source t h
+spared-room source t e key value (short h) z = short-room source t e key value h z
 
 -- what is not edited at all has a text that is longer than any plan: 14, whatever the room
-module _ {source : List ℕ} {e : Edit} {key value : List ℕ} (z : EditFits source e key value) (room : ℕ) where
-  too-long : {n : ℕ} → n ≤ length (editedText source e key value) → sourceLimit < n → fitsIn room (length (editedText source e key value)) ≡ false
+module _ {source t : List ℕ} {e : Edit} {key value : List ℕ} (z : EditFits source t e key value) (room : ℕ) where
+  too-long : {n : ℕ} → n ≤ length (editedText source t e key value) → sourceLimit < n → fitsIn room (length (editedText source t e key value)) ≡ false
   too-long {n} h i =
-      let m : ℕ = length (editedText source e key value) in
+      let m : ℕ = length (editedText source t e key value) in
       T-false (fitsIn room m) (not-T (fitsIn room m) (λ t.
       let j : m ≤ sourceLimit = leb→le m sourceLimit (and-right (leb m room) (leb m sourceLimit) t) in
       omega arith))
 
-  pub unfit-14 : writable (length source) e (length key) (length value) ≡ false → fitsIn room (length (editedText source e key value)) ≡ false
+  pub unfit-14 : writable (length source) e (length key) (length value) ≡ false → fitsIn room (length (editedText source t e key value)) ≡ false
   unfit-14 g = by (order sourceLimit (length key)) (order sourceLimit (length value))
     where
-      by : Order sourceLimit (length key) → Order sourceLimit (length value) → fitsIn room (length (editedText source e key value)) ≡ false
+      by : Order sourceLimit (length key) → Order sourceLimit (length value) → fitsIn room (length (editedText source t e key value)) ≡ false
       by (below h) j = too-long (z .key) h
       by (above h) (below i) = too-long (z .value) i
-      by (above h) (above i) = absurd (true≢false (sym (fit-writable source e key value z h i) ∙ g))
+      by (above h) (above i) = absurd (true≢false (sym (fit-writable source t e key value z h i) ∙ g))
 
 -- what is said of the room
 pub says-enough : {b : Bool} → b ≡ true → roomAnswer Room.Enough ≡ require b 14 0
@@ -194,28 +195,28 @@ unfolding editedAnswer roomAnswer
 unfit-exceeded room e = ap (λ (m : Edited). roomOf room (editedAnswer m)) (sym e)
 
 -- of an edit that was measured
-pub measured-roomed : {source : List ℕ} {e : Edit} {key value : List ℕ} → EditFits source e key value → (out : List ℕ) {part : List ℕ} {m : Edited}
-    → Edits source e key value [] part m → {r : Room} → roomAnswer r ≡ roomOf (length out) (editedAnswer m) → Roomed source e key value out (part ++ out) r
-measured-roomed {source} {e} {key} {value} z out {part} g {r} a = by (writable (length source) e (length key) (length value)) refl
+pub measured-roomed : {source t : List ℕ} {e : Edit} {key value : List ℕ} → EditFits source t e key value → (out : List ℕ) {part : List ℕ} {m : Edited}
+    → Edits source t e key value [] part m → {r : Room} → roomAnswer r ≡ roomOf (length out) (editedAnswer m) → Roomed source t e key value out (part ++ out) r
+measured-roomed {source} {t} {e} {key} {value} z out {part} g {r} a = by (writable (length source) e (length key) (length value)) refl
   where
-    by : (b : Bool) → writable (length source) e (length key) (length value) ≡ b → Roomed source e key value out (part ++ out) r
-    by true f = record { answer = a ∙ ap (roomOf (length out)) (answer-by g true f); same = untouched (editedText source e key value) (output-by g true f) out }
+    by : (b : Bool) → writable (length source) e (length key) (length value) ≡ b → Roomed source t e key value out (part ++ out) r
+    by true f = record { answer = a ∙ ap (roomOf (length out)) (answer-by g true f); same = untouched (editedText source t e key value) (output-by g true f) out }
     by false f = record {
       answer = a ∙ ap (roomOf (length out)) (answer-by g false f) ∙ sym (ap (λ (b : Bool). require b 14 0) (unfit-14 z (length out) f));
       same = ap (λ (p : List ℕ). p ++ out) (output-by g false f);
     }
 
 -- what was said of it
-module _ {source : List ℕ} {e : Edit} {key value out out′ : List ℕ} {r : Room} (g : Roomed source e key value out out′ r) where
-  pub room-there : r ≡ Room.Enough → fitsIn (length out) (length (editedText source e key value)) ≡ true
+module _ {source t : List ℕ} {e : Edit} {key value out out′ : List ℕ} {r : Room} (g : Roomed source t e key value out out′ r) where
+  pub room-there : r ≡ Room.Enough → fitsIn (length out) (length (editedText source t e key value)) ≡ true
   unfolding roomAnswer
   room-there i =
-      let b : Bool = fitsIn (length out) (length (editedText source e key value)) in
+      let b : Bool = fitsIn (length out) (length (editedText source t e key value)) in
       T-true b (require-ok b 14 0 tt (sym (g .answer) ∙ ap roomAnswer i))
 
-  pub room-missing : r ≡ Room.Exceeded → fitsIn (length out) (length (editedText source e key value)) ≡ false
+  pub room-missing : r ≡ Room.Exceeded → fitsIn (length out) (length (editedText source t e key value)) ≡ false
   unfolding roomAnswer
-  room-missing i = short (fitsIn (length out) (length (editedText source e key value))) (sym (g .answer) ∙ ap roomAnswer i)
+  room-missing i = short (fitsIn (length out) (length (editedText source t e key value))) (sym (g .answer) ∙ ap roomAnswer i)
     where
       short : (b : Bool) → require b 14 0 ≡ refused 14 0 → b ≡ false
       short true f = absurd (not-both (sym f))
@@ -223,9 +224,9 @@ module _ {source : List ℕ} {e : Edit} {key value out out′ : List ℕ} {r : R
 
 -- ---- retyping
 
-module _ (terms : Terms) (source : List ℕ) (v : Value) (e : read terms source ≡ ok v) where
-  plan : IsPlan terms source v
-  plan = read-ok terms source v e
+module _ (before source : List ℕ) (v : Value) (e : read (termsOf before) source ≡ ok v) where
+  plan : IsPlan (termsOf before) source v
+  plan = read-ok (termsOf before) source v e
 
   -- the plan is a stretch of its tokens
   abbrev whole-plan : Stretch source 0 (length source)
@@ -236,13 +237,16 @@ module _ (terms : Terms) (source : List ℕ) (v : Value) (e : read terms source 
     inside = omega arith;
   }
 
-  canonical-text : canonicalText source ≡ print (canonical v)
+  -- each token being told its node's tag in the table that reading left
+  canonical-text : canonicalText (tableAfter (termsOf before) source before) source ≡ print (canonical v)
   canonical-text =
-      ap (changedText Change.Canonical) (between-stretch whole-plan) ∙ ap (λ (ts : List Token). writeTokens ts []) (sym (tokens-canonical v))
+      ap (changedText Change.Canonical (tableAfter (termsOf before) source before) 0) (between-stretch whole-plan)
+      ∙ canonical-anywhere (tableAfter (termsOf before) source before) 0 (tokens v)
+      ∙ ap (λ (ts : List Token). writeTokens ts []) (sym (tokens-canonical v))
       ∙ tokens-write (canonical v) []
 
-  pub canonical-sound : EditFits source Edit.Canonical [] []
-  canonical-sound = record {
+  pub canonical-sound : (t : List ℕ) → EditFits source t Edit.Canonical [] []
+  canonical-sound t = record {
     short = omega (arith, plan .fits .valid .short, ap length (plan .printed));
     inside = refl;
     parted = λ p i. absurd (never i);
@@ -253,8 +257,11 @@ module _ (terms : Terms) (source : List ℕ) (v : Value) (e : read terms source 
       never : {p : Splice} → Edit.Canonical ≡ Edit.Splice p → ⊥
       never i = let z : _≡_ {A = ℕ} 0 1 = cc in omega arith
 
-  pub canonical-written : (room : ℕ) → canonicalBytes terms room source ≡ withRoom room (canonicalText source)
-  canonical-written room = by-value terms room source v e ∙ ap (withRoom room) (sym canonical-text)
+  pub canonical-written : {t : List ℕ} → t ≡ tableAfter (termsOf before) source before → (room : ℕ)
+      → canonicalBytes (termsOf before) room source ≡ withRoom room (canonicalText t source)
+  canonical-written i room =
+      by-value (termsOf before) room source v e
+      ∙ ap (withRoom room) (sym (ap (λ (t : List ℕ). canonicalText t source) i ∙ canonical-text))
 
 -- ---- inserting
 
@@ -271,15 +278,15 @@ module _ {source : List ℕ} {node place : ℕ} {key value before after : List �
     pub located : Located (termsOf before) source node place key value p
     located = spot-leads (termsOf before) source node place key value p spot-is
 
-    pub insert-sound : EditFits source (Edit.Splice p) key value
-    insert-sound =
-        let t = texts-inside source key value p in
+    pub insert-sound : (t : List ℕ) → EditFits source t (Edit.Splice p) key value
+    insert-sound t =
+        let inside = texts-inside source key value p in
         record {
           short = located .short;
           inside = located .stands;
           parted = λ q i. subst (λ (r : Splice). Parted source r × (r .renumbering .up ≤ 1)) (same-splice i) (located .parted, located .by-one);
-          key = t .0;
-          value = t .1;
+          key = inside .0;
+          value = inside .1;
         }
       where
         same-splice : {q r : Splice} → Edit.Splice q ≡ Edit.Splice r → q ≡ r

@@ -45,20 +45,20 @@ pub data Spared (room : ℕ) : Edit → (source key value : ℕ) → Type 0 wher
   short : {e : Edit} {source key value : ℕ} → Short room source key value → Spared room e source key value
 
 -- an edit of a plan that was read: it has its place there, between tokens, no reference rises by more than one, and its texts are part of what is written
-pub record EditFits (s : List ℕ) (e : Edit) (k v : List ℕ) : Type 0 where
+pub record EditFits (s t : List ℕ) (e : Edit) (k v : List ℕ) : Type 0 where
   pub short : length s ≤ sourceLimit
   pub inside : editStands (length s) e ≡ true
   pub parted : (p : Splice) → e ≡ Edit.Splice p → Parted s p × (p .renumbering .up ≤ 1)
-  pub key : length k ≤ length (editedText s e k v)
-  pub value : length v ≤ length (editedText s e k v)
+  pub key : length k ≤ length (editedText s t e k v)
+  pub value : length v ≤ length (editedText s t e k v)
 
 -- 14; the output is as it was
-pub record Roomed (s : List ℕ) (e : Edit) (key value out out′ : List ℕ) (r : Room) : Type 0 where
-  pub answer : roomAnswer r ≡ roomOf (length out) (ok (length (editedText s e key value)))
+pub record Roomed (s t : List ℕ) (e : Edit) (key value out out′ : List ℕ) (r : Room) : Type 0 where
+  pub answer : roomAnswer r ≡ roomOf (length out) (ok (length (editedText s t e key value)))
   pub same : out′ ≡ out
 
 -- the answer, the table and the output, the bytes to write being known
 abbrev pub Finishes : (s : List ℕ) → Edit → (key value t t′ out out′ : List ℕ) → Writing → Type 0
 Finishes s e key value t t′ out out′ r =
-    (before : List ℕ) (text : Answer (List ℕ)) → t ≡ tableAfter (termsOf before) s before → text ≡ withRoom (length out) (editedText s e key value)
+    (before : List ℕ) (text : Answer (List ℕ)) → t ≡ tableAfter (termsOf before) s before → text ≡ withRoom (length out) (editedText s t e key value)
     → Writes (termsOf before) text s before t′ out out′ r

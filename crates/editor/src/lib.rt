@@ -114,19 +114,27 @@ fn room_of(room: usize, measured: Edited) -> Room
 
 // Whether there is room for the edited plan. Written where there is none for any of it, in the empty part of the output, a longer one is only measured: so one
 // loop measures and writes, and a refusal has written nothing.
-fn room_for(source: &[u8], edit: Edit, key: &[u8], value: &[u8], out: &mut [u8]) -> Room
-    requires { ⌜ EditFits (now source) edit (now key) (now value) ⌝ }
-    ensures { λ r. ⌜ Roomed (now (source .entry)) edit (now (key .entry)) (now (value .entry)) (now (out .entry)) (now (out .exit)) r ⌝ }
+fn room_for(
+    source: &[u8],
+    table: &[u64],
+    edit: Edit,
+    key: &[u8],
+    value: &[u8],
+    out: &mut [u8],
+) -> Room
+    requires { ⌜ EditFits (now source) (now table) edit (now key) (now value) ⌝ }
+    ensures { λ r. ⌜ Roomed (now (source .entry)) (now (table .entry)) edit (now (key .entry)) (now (value .entry))
+        (now (out .entry)) (now (out .exit)) r ⌝ }
 {
     let room = out.len();
     if is_spared(room, edit, source.len(), key.len(), value.len()) {
         return Room::Enough;
     }
-    let measured = write(source, edit, key, value, &mut out[..0]);
+    let measured = write(source, table, edit, key, value, &mut out[..0]);
     room_of(room, measured)
 }
 
-// 14, and then the edited plan is written and read.
+// 14, and then the edited plan is written and read. The table is that of the plan given: it tells the nodes of its tokens.
 fn write_plan(
     source: &[u8],
     edit: Edit,
@@ -135,15 +143,15 @@ fn write_plan(
     table: &mut [u64],
     out: &mut [u8],
 ) -> Writing
-    requires { ⌜ EditFits (now source) edit (now key) (now value) ⌝ }
+    requires { ⌜ EditFits (now source) (now table) edit (now key) (now value) ⌝ }
     ensures { λ r. ⌜ Finishes (now (source .entry)) edit (now (key .entry)) (now (value .entry))
         (now (table .entry)) (now (table .exit)) (now (out .entry)) (now (out .exit)) r ⌝ }
 {
-    let room = room_for(source, edit, key, value, out);
+    let room = room_for(source, table, edit, key, value, out);
     let Room::Enough = room else {
         return refuse(table);
     };
-    let written = write(source, edit, key, value, out);
+    let written = write(source, table, edit, key, value, out);
     let Edited::Written(length) = written else {
         // Never: a key or a value longer than any plan, for which there was no room.
         return refuse(table);

@@ -27,8 +27,7 @@ use Rattle.tokens.proofs.TokenLaws.{tokens-write, tokensIn-write, tokens-append
 use Rattle.tokens.proofs.Standing.{standing, never-unfit}
 use Rattle.rewriting.specs.declared.splice.Renumbering.{Renumbering}
 use Rattle.rewriting.specs.declared.splice.Splice.{Splice}
-use Rattle.rewriting.specs.declared.rewrite.Change.{Change}
-use Rattle.rewriting.specs.Rewriting.{raising, changedText}
+use Rattle.rewriting.specs.Rewriting.{raising, renumberedBytes}
 use Rattle.rewriting.proofs.Raised.{raised-tokens}
 use Rattle.placing.specs.declared.pass.Passed.{Passed}
 use Rattle.placing.specs.Passing.{Ahead, Reached}
@@ -291,7 +290,7 @@ module _ (v : Value) (node : ℕ) (site : Site) (way : WayTo v node (site .path)
       ∙ ap (λ (n : ℕ). tag Kind.array ∷ byte ":" ∷ writeNumber shortest n (byte ":" ∷ byte "{" ∷ [])) (sym (add-one (count (site .pairs))))
 
   -- its references renumbered
-  moved : (ts : List Token) → writeTokens (raise ts) [] ≡ changedText (Change.Renumber (raising K)) ts
+  moved : (ts : List Token) → writeTokens (raise ts) [] ≡ renumberedBytes (raising K) ts
   moved ts = ap (λ (l : List Token). writeTokens l []) (sym (raised-tokens K ts))
 
   parts-are : print (insert (site .path) place k x v) ≡ parts-with (raising K) (count (site .pairs) + 1) (writeKey k []) (writeScalar x [])

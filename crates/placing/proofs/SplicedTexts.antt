@@ -15,10 +15,9 @@ use Rattle.format.specs.Canonical.{shortest}
 use Rattle.scanner.specs.Scans.{tell}
 use Rattle.tokens.specs.Tokens.{Token}
 use Rattle.tokens.proofs.Stretches.{between-stretch}
-use Rattle.rewriting.specs.declared.rewrite.Change.{Change}
 use Rattle.rewriting.specs.declared.splice.Renumbering.{Renumbering}
 use Rattle.rewriting.specs.declared.splice.Splice.{Splice}
-use Rattle.rewriting.specs.Rewriting.{changedText}
+use Rattle.rewriting.specs.Rewriting.{renumberedBytes}
 use Rattle.rewriting.specs.Edited.{splicedHead, splicedText, stands, Parted}
 use Rattle.rewriting.proofs.Respelled.{tail-of}
 use Rattle.placing.specs.Placing.{HeadAhead}
@@ -36,9 +35,9 @@ pub record Splices (s : List ℕ) (p : Splice) : Type 0 where
 -- "the old ones with three changes": the references in each part, the count of the array's head, and the texts between the parts
 abbrev pub pieces : (front middle back : List Token) → Renumbering → (count : ℕ) (key value : List ℕ) → List ℕ
 pieces front middle back m count key value =
-    changedText (Change.Renumber m) front
+    renumberedBytes m front
     ++ ((tag Kind.array ∷ byte ":" ∷ writeNumber shortest count (byte ":" ∷ byte "{" ∷ []))
-    ++ (changedText (Change.Renumber m) middle ++ (key ++ (value ++ changedText (Change.Renumber m) back))))
+    ++ (renumberedBytes m middle ++ (key ++ (value ++ renumberedBytes m back))))
 
 module _ {s : List ℕ} {p : Splice} (e : Splices s p) where
   head-here : drop (p .at) s ≡ 97 ∷ 58 ∷ writeNumber (e .head .spelling) (e .head .pairs) ((58 ∷ 123 ∷ []) ++ drop (p .inside) s)
@@ -50,11 +49,11 @@ module _ {s : List ℕ} {p : Splice} (e : Splices s p) where
   pub spliced-is : (key value : List ℕ) → splicedText s key value p
       ≡ pieces (e .parted .front .tokens) (e .parted .middle .tokens) (e .parted .back .tokens) (p .renumbering) (p .count) key value
   spliced-is key value =
-      let changed : List Token → List ℕ = changedText (Change.Renumber (p .renumbering)) in
+      let moved : List Token → List ℕ = renumberedBytes (p .renumbering) in
       let g : Parted s p = e .parted in
-      ap₂ _++_ (ap changed (between-stretch (g .front)))
+      ap₂ _++_ (ap moved (between-stretch (g .front)))
       (ap₂ _++_ head-spliced
-      (ap₂ _++_ (ap changed (between-stretch (g .middle))) (ap (λ (ts : List Token). key ++ (value ++ changed ts)) (between-stretch (g .back)))))
+      (ap₂ _++_ (ap moved (between-stretch (g .middle))) (ap (λ (ts : List Token). key ++ (value ++ moved ts)) (between-stretch (g .back)))))
 
   -- a tag, a colon, and at the end a colon and a brace
   head-long : p .at + 4 ≤ p .inside

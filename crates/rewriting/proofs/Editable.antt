@@ -73,91 +73,92 @@ sizes n e key value w =
 -- ---- what is written
 
 -- by the test
-bytes-by : (s : List ℕ) (e : Edit) (key value : List ℕ) (b : Bool) → writable (length s) e (length key) (length value) ≡ b
-    → editedBytes s e key value ≡ (require b 14 0 >>= λ u. ok (editedText s e key value))
-bytes-by s e key value b f = ap (λ (b : Bool). require b 14 0 >>= λ u. ok (editedText s e key value)) f
+bytes-by : (s t : List ℕ) (e : Edit) (key value : List ℕ) (b : Bool) → writable (length s) e (length key) (length value) ≡ b
+    → editedBytes s t e key value ≡ (require b 14 0 >>= λ u. ok (editedText s t e key value))
+bytes-by s t e key value b f = ap (λ (b : Bool). require b 14 0 >>= λ u. ok (editedText s t e key value)) f
 
-pub leaves-unfit : (s : List ℕ) (e : Edit) (key value : List ℕ) {out : List ℕ} → writable (length s) e (length key) (length value) ≡ false
-    → Edits s e key value out out Edited.Unfit
+pub leaves-unfit : (s t : List ℕ) (e : Edit) (key value : List ℕ) {out : List ℕ} → writable (length s) e (length key) (length value) ≡ false
+    → Edits s t e key value out out Edited.Unfit
 unfolding editedAnswer
-leaves-unfit s e key value {out} f =
-    let bytes : editedBytes s e key value ≡ refused 14 0 = bytes-by s e key value false f in
+leaves-unfit s t e key value {out} f =
+    let bytes : editedBytes s t e key value ≡ refused 14 0 = bytes-by s t e key value false f in
     record { answer = sym (ap lengthEdited bytes); output = sym (ap (λ (a : Answer (List ℕ)). outputEdited a out) bytes) }
 
 module _ (s : List ℕ) (e : Edit) (key value : List ℕ) (f : writable (length s) e (length key) (length value) ≡ true) where
-  pub canonical-room : Sound Change.Canonical × Within (canonicalText s) 0
-  canonical-room = (record { numbers = λ m i. absurd (never i) }, canonical-within s (sizes (length s) e (length key) (length value) f .source))
-    where
-      never : {m : Renumbering} → Change.Canonical ≡ Change.Renumber m → ⊥
-      never i = let z : _≡_ {A = ℕ} 0 1 = cc in omega arith
-
   pub splice-room : {p : Splice} → e ≡ Edit.Splice p → Spliceable s key value p
   splice-room {p} i =
       let z = sizes (length s) e (length key) (length value) f in
       spliceable s key value p (sym (inside-splice (length s) e (length key) (length value) i) ∙ z .standing) (z .source) (z .key) (z .value)
 
-  pub puts-edited : {t out out′ : List ℕ} {n : ℕ} → editedText s e key value ≡ t → Puts t 0 out n out′ → Edits s e key value out out′ (Edited.Written n)
+module _ (s t : List ℕ) (e : Edit) (key value : List ℕ) (f : writable (length s) e (length key) (length value) ≡ true) where
+  pub canonical-room : (0 ≤ 0) × Sound Change.Canonical × Within (canonicalText t s) 0
+  canonical-room = (omega arith, record { numbers = λ m i. absurd (never i) }, canonical-within t s (sizes (length s) e (length key) (length value) f .source))
+    where
+      never : {m : Renumbering} → Change.Canonical ≡ Change.Renumber m → ⊥
+      never i = let z : _≡_ {A = ℕ} 0 1 = cc in omega arith
+
+  pub puts-edited : {u out out′ : List ℕ} {n : ℕ} → editedText s t e key value ≡ u → Puts u 0 out n out′ → Edits s t e key value out out′ (Edited.Written n)
   unfolding editedAnswer
   puts-edited {out = out} i put =
       let p = puts-as i put in
-      let bytes : editedBytes s e key value ≡ ok (editedText s e key value) = bytes-by s e key value true f in
+      let bytes : editedBytes s t e key value ≡ ok (editedText s t e key value) = bytes-by s t e key value true f in
       record {
-        answer = ap ok (p .end ∙ zero-add (length (editedText s e key value))) ∙ sym (ap lengthEdited bytes);
+        answer = ap ok (p .end ∙ zero-add (length (editedText s t e key value))) ∙ sym (ap lengthEdited bytes);
         output = p .text ∙ sym (ap (λ (a : Answer (List ℕ)). outputEdited a out) bytes);
       }
 
-pub as-canonical : {e : Edit} (s key value : List ℕ) → e ≡ Edit.Canonical → editedText s e key value ≡ canonicalText s
-as-canonical s key value i = ap (λ (d : Edit). editedText s d key value) i
+pub as-canonical : {e : Edit} (s t key value : List ℕ) → e ≡ Edit.Canonical → editedText s t e key value ≡ canonicalText t s
+as-canonical s t key value i = ap (λ (d : Edit). editedText s t d key value) i
 
-pub as-splice : {e : Edit} {p : Splice} (s key value : List ℕ) → e ≡ Edit.Splice p → editedText s e key value ≡ splicedText s key value p
-as-splice s key value i = ap (λ (d : Edit). editedText s d key value) i
+pub as-splice : {e : Edit} {p : Splice} (s t key value : List ℕ) → e ≡ Edit.Splice p → editedText s t e key value ≡ splicedText s key value p
+as-splice s t key value i = ap (λ (d : Edit). editedText s t d key value) i
 
 -- ---- for those who edit
 
 -- how long it is at most, between tokens, where no reference rises by more than one
-pub edited-most : (s : List ℕ) (e : Edit) (key value : List ℕ) → writable (length s) e (length key) (length value) ≡ true
+pub edited-most : (s t : List ℕ) (e : Edit) (key value : List ℕ) → writable (length s) e (length key) (length value) ≡ true
     → ((p : Splice) → e ≡ Edit.Splice p → Parted s p × (p .renumbering .up ≤ 1))
-    → 4 * length (editedText s e key value) ≤ 5 * length s + 4 * length key + 4 * length value + 36
-edited-most s Edit.Canonical key value f g = omega (arith, canonical-text-most s)
-edited-most s (Edit.Splice p) key value f g =
+    → 4 * length (editedText s t e key value) ≤ 5 * length s + 4 * length key + 4 * length value + 36
+edited-most s t Edit.Canonical key value f g = omega (arith, canonical-text-most t s)
+edited-most s t (Edit.Splice p) key value f g =
     parted-most s key value p (sizes (length s) (Edit.Splice p) (length key) (length value) f .standing) (g p refl .0) (g p refl .1)
 
-pub record Put (s : List ℕ) (e : Edit) (key value out out′ : List ℕ) (n : ℕ) : Type 0 where
+pub record Put (s t : List ℕ) (e : Edit) (key value out out′ : List ℕ) (n : ℕ) : Type 0 where
   pub fit : writable (length s) e (length key) (length value) ≡ true
-  pub text : Puts (editedText s e key value) 0 out n out′
+  pub text : Puts (editedText s t e key value) 0 out n out′
 
-pub record Untouched (s : List ℕ) (e : Edit) (key value out out′ : List ℕ) : Type 0 where
+pub record Untouched (s t : List ℕ) (e : Edit) (key value out out′ : List ℕ) : Type 0 where
   pub unfit : writable (length s) e (length key) (length value) ≡ false
   pub same : out′ ≡ out
 
-module _ {s : List ℕ} {e : Edit} {key value out out′ : List ℕ} {r : Edited} (g : Edits s e key value out out′ r) where
+module _ {s t : List ℕ} {e : Edit} {key value out out′ : List ℕ} {r : Edited} (g : Edits s t e key value out out′ r) where
   -- by the test
   pub answer-by : (b : Bool) → writable (length s) e (length key) (length value) ≡ b
-      → editedAnswer r ≡ lengthEdited (require b 14 0 >>= λ u. ok (editedText s e key value))
-  answer-by b f = g .answer ∙ ap lengthEdited (bytes-by s e key value b f)
+      → editedAnswer r ≡ lengthEdited (require b 14 0 >>= λ u. ok (editedText s t e key value))
+  answer-by b f = g .answer ∙ ap lengthEdited (bytes-by s t e key value b f)
 
   pub output-by : (b : Bool) → writable (length s) e (length key) (length value) ≡ b
-      → out′ ≡ outputEdited (require b 14 0 >>= λ u. ok (editedText s e key value)) out
-  output-by b f = g .output ∙ ap (λ (a : Answer (List ℕ)). outputEdited a out) (bytes-by s e key value b f)
+      → out′ ≡ outputEdited (require b 14 0 >>= λ u. ok (editedText s t e key value)) out
+  output-by b f = g .output ∙ ap (λ (a : Answer (List ℕ)). outputEdited a out) (bytes-by s t e key value b f)
 
-  pub written-of : {n : ℕ} → r ≡ Edited.Written n → Put s e key value out out′ n
+  pub written-of : {n : ℕ} → r ≡ Edited.Written n → Put s t e key value out out′ n
   unfolding editedAnswer
   written-of {n} i = by (writable (length s) e (length key) (length value)) refl
     where
-      by : (b : Bool) → writable (length s) e (length key) (length value) ≡ b → Put s e key value out out′ n
+      by : (b : Bool) → writable (length s) e (length key) (length value) ≡ b → Put s t e key value out out′ n
       by true f = record {
         fit = f;
         text = record {
-          end = ok-same (ap editedAnswer (sym i) ∙ answer-by true f) ∙ sym (zero-add (length (editedText s e key value)));
+          end = ok-same (ap editedAnswer (sym i) ∙ answer-by true f) ∙ sym (zero-add (length (editedText s t e key value)));
           text = output-by true f;
         };
       }
       by false f = absurd (not-both (sym (answer-by false f) ∙ ap editedAnswer i))
 
-  pub unfit-of : r ≡ Edited.Unfit → Untouched s e key value out out′
+  pub unfit-of : r ≡ Edited.Unfit → Untouched s t e key value out out′
   unfolding editedAnswer
   unfit-of i = by (writable (length s) e (length key) (length value)) refl
     where
-      by : (b : Bool) → writable (length s) e (length key) (length value) ≡ b → Untouched s e key value out out′
+      by : (b : Bool) → writable (length s) e (length key) (length value) ≡ b → Untouched s t e key value out out′
       by true f = absurd (not-both (ap editedAnswer (sym i) ∙ answer-by true f))
       by false f = record { unfit = f; same = output-by false f }

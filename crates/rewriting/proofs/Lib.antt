@@ -2,6 +2,7 @@ mod Outputs
 mod Spelled
 pub mod Respelled
 pub mod Raised
+pub mod Anywhere
 mod Staying
 mod PlainTokens
 mod Rewritten

@@ -12,10 +12,11 @@ use Rattle.decimal.proofs.Decide.{Order, below, above, order}
 use Rattle.decimal.proofs.Numerals.{decimal-large, decimal-length, decimal-some, by-tens}
 use Rattle.format.specs.Syntax.{Reference}
 use Rattle.format.specs.Limits.{numberLimit, sourceLimit}
+use Rattle.format.specs.Table.{wordAt, tagWord}
 use Rattle.format.specs.Canonical.{shortest}
 use Rattle.format.proofs.Fronts.{number-length}
 use Rattle.format.proofs.NormalForm.{number-shorter, scalar-shorter, container-shorter}
-use Rattle.tokens.specs.Tokens.{Token, scalar, reference, opening, closing, writeToken, writeTokens, canonicalToken, TokenFits, AllFit}
+use Rattle.tokens.specs.Tokens.{Token, scalar, reference, opening, closing, writeToken, writeTokens, canonicalToken, TokenFits, AllFit, nodeBehind}
 use Rattle.tokens.specs.Between.{tokensBetween, Stretch}
 use Rattle.tokens.proofs.TokenLaws.{token-front, tokens-front}
 use Rattle.tokens.proofs.Stretches.{Prefix, between-prefix, between-stretch}
@@ -24,8 +25,10 @@ use Rattle.rewriting.specs.declared.splice.Renumbering.{Renumbering}
 use Rattle.rewriting.specs.declared.splice.Splice.{Splice}
 use Rattle.rewriting.specs.Output.{Within}
 use Rattle.rewriting.specs.Rewriting.{isRenumbered, newNumber, renumberedToken, changedToken, changedText, rewrittenText}
+use Rattle.rewriting.specs.Rewriting.{renumberedBetween}
 use Rattle.rewriting.specs.Edited.{canonicalText, splicedHead, splicedText, stands, Spliceable, Parted}
 use Rattle.rewriting.proofs.Respelled.{renumbered-by}
+use Rattle.rewriting.proofs.Anywhere.{renumbered-anywhere}
 use Rattle.rewriting.proofs.SplicedTexts.{Room, room-of}
 
 -- ---- one token
@@ -80,10 +83,10 @@ canonical-most closing = omega arith
 -- four times what a token that fits becomes at the most, by its bytes
 record Grows (c : Change) (most : ℕ → ℕ) : Type 0 where
   adds : (m n : ℕ) → most (m + n) ≡ most m + most n
-  token : (t : Token) → TokenFits t → 4 * length (writeToken (changedToken c t) []) ≤ most (length (writeToken t []))
+  token : (g : ℕ) (t : Token) → TokenFits t → 4 * length (writeToken (changedToken c g t) []) ≤ most (length (writeToken t []))
 
 shrinks : Grows Change.Canonical (λ n. 4 * n)
-shrinks = record { adds = λ m n. omega arith; token = λ t f. omega (arith, canonical-most t) }
+shrinks = record { adds = λ m n. omega arith; token = λ g t f. omega (arith, canonical-most t) }
 
 -- a reference's tag, its colon, its number and its semicolon
 reference-length : (r : Reference) → 3 + length (decimal (r .named)) ≤ length (writeToken (reference r) [])
@@ -106,7 +109,7 @@ renumbered-length m r = by (isRenumbered m (r .named)) refl
 
 -- a reference has four bytes or more, and grows by one at the most where its number does
 grows-by-one : (m : Renumbering) → m .up ≤ 1 → Grows (Change.Renumber m) (λ n. 5 * n)
-grows-by-one m h = record { adds = λ a b. omega arith; token = token }
+grows-by-one m h = record { adds = λ a b. omega arith; token = λ g t f. token t f }
   where
     token : (t : Token) → TokenFits t → 4 * length (writeToken (renumberedToken m t) []) ≤ 5 * length (writeToken t [])
     token (scalar x) f = omega arith
@@ -121,7 +124,7 @@ grows-by-one m h = record { adds = λ a b. omega arith; token = token }
 
 -- and to nine bytes whatever its number becomes
 grows-to-nine : (m : Renumbering) → m .up ≤ numberLimit → Grows (Change.Renumber m) (λ n. 9 * n)
-grows-to-nine m h = record { adds = λ a b. omega arith; token = token }
+grows-to-nine m h = record { adds = λ a b. omega arith; token = λ g t f. token t f }
   where
     token : (t : Token) → TokenFits t → 4 * length (writeToken (renumberedToken m t) []) ≤ 9 * length (writeToken t [])
     token (scalar x) f = omega arith
@@ -144,32 +147,34 @@ stretch-length {s} {from} {to} g = omega (
   length-drop to s,
 )
 
-module _ {c : Change} {most : ℕ → ℕ} (g : Grows c most) where
-  tokens-most : (ts : List Token) → AllFit ts → 4 * length (changedText c ts) ≤ most (length (writeTokens ts []))
-  tokens-most [] f = omega arith
-  tokens-most (t ∷ ts) f =
-      let old : ℕ = length (writeToken t []) in
-      let olds : ℕ = length (writeTokens ts []) in
+module _ {c : Change} {most : ℕ → ℕ} (g : Grows c most) (t : List ℕ) where
+  tokens-most : (i : ℕ) (ts : List Token) → AllFit ts → 4 * length (changedText c t i ts) ≤ most (length (writeTokens ts []))
+  tokens-most i [] f = omega arith
+  tokens-most i (u ∷ us) f =
+      let old : ℕ = length (writeToken u []) in
+      let olds : ℕ = length (writeTokens us []) in
+      let new : Token = changedToken c (wordAt t i tagWord) u in
+      let news : List ℕ = changedText c t (nodeBehind i u) us in
       omega (
         arith,
-        tokens-most ts (f .1),
-        g .token t (f .0),
-        ap most (ap length (token-front t [] (writeTokens ts [])) ∙ length-append (writeToken t []) (writeTokens ts [])),
+        tokens-most (nodeBehind i u) us (f .1),
+        g .token (wordAt t i tagWord) u (f .0),
+        ap most (ap length (token-front u [] (writeTokens us [])) ∙ length-append (writeToken u []) (writeTokens us [])),
         g .adds old olds,
-        ap length (token-front (changedToken c t) [] (changedText c ts)),
-        length-append (writeToken (changedToken c t) []) (changedText c ts),
+        ap length (token-front new [] news),
+        length-append (writeToken new []) news,
       )
 
   -- what stands between two indices, whatever it is
-  between-most : (s : List ℕ) (from to : ℕ) → 4 * length (rewrittenText c s from to) ≤ most (length (writeTokens (tokensBetween s from to) []))
-  between-most s from to = tokens-most (tokensBetween s from to) (between-prefix s from to .fit)
+  between-most : (i : ℕ) (s : List ℕ) (from to : ℕ) → 4 * length (rewrittenText c t i s from to) ≤ most (length (writeTokens (tokensBetween s from to) []))
+  between-most i s from to = tokens-most i (tokensBetween s from to) (between-prefix s from to .fit)
 
   -- a stretch has as many bytes as it takes
-  stretch-most : {s : List ℕ} {from to : ℕ} → Stretch s from to → 4 * length (rewrittenText c s from to) ≤ most (to - from)
-  stretch-most {s} {from} {to} a =
+  stretch-most : (i : ℕ) {s : List ℕ} {from to : ℕ} → Stretch s from to → 4 * length (rewrittenText c t i s from to) ≤ most (to - from)
+  stretch-most i {s} {from} {to} a =
       let size : length (writeTokens (tokensBetween s from to) []) ≡ to - from =
       omega (arith, ap (λ (ts : List Token). length (writeTokens ts [])) (between-stretch a), stretch-length a, a .inside) in
-      omega (arith, between-most s from to, ap most size)
+      omega (arith, between-most i s from to, ap most size)
 
 between-length : (s : List ℕ) (from to : ℕ) → length (writeTokens (tokensBetween s from to) []) ≤ length s
 between-length s from to =
@@ -184,13 +189,13 @@ module _ (s key value : List ℕ) (p : Splice) where
   m = p .renumbering
 
   abbrev front : List ℕ
-  front = rewrittenText (Change.Renumber m) s 0 (p .at)
+  front = renumberedBetween m s 0 (p .at)
 
   abbrev middle : List ℕ
-  middle = rewrittenText (Change.Renumber m) s (p .inside) (p .from)
+  middle = renumberedBetween m s (p .inside) (p .from)
 
   abbrev back : List ℕ
-  back = rewrittenText (Change.Renumber m) s (p .to) (length s)
+  back = renumberedBetween m s (p .to) (length s)
 
   spliced-length : length (splicedText s key value p) ≡ length front + length (splicedHead s p) + length middle + length key + length value + length back
   spliced-length = omega (
@@ -223,6 +228,10 @@ module _ (s key value : List ℕ) (p : Splice) where
           length-slice (p .inside - 2) (p .inside) s (room .inside),
         )
 
+    -- whatever the table says
+    same : (from to : ℕ) → length (rewrittenText (Change.Renumber m) [] 0 s from to) ≡ length (renumberedBetween m s from to)
+    same from to = ap length (renumbered-anywhere m [] 0 s from to)
+
     -- whatever the indices
     spliced-most : 4 * length (splicedText s key value p) ≤ 27 * length s + 4 * length key + 4 * length value + 36
     spliced-most =
@@ -231,9 +240,12 @@ module _ (s key value : List ℕ) (p : Splice) where
           arith,
           spliced-length,
           head-most,
-          between-most grows s 0 (p .at),
-          between-most grows s (p .inside) (p .from),
-          between-most grows s (p .to) (length s),
+          between-most grows [] 0 s 0 (p .at),
+          between-most grows [] 0 s (p .inside) (p .from),
+          between-most grows [] 0 s (p .to) (length s),
+          same 0 (p .at),
+          same (p .inside) (p .from),
+          same (p .to) (length s),
           between-length s 0 (p .at),
           between-length s (p .inside) (p .from),
           between-length s (p .to) (length s),
@@ -253,9 +265,12 @@ module _ (s key value : List ℕ) (p : Splice) where
           arith,
           spliced-length,
           head-most,
-          stretch-most grows (g .front),
-          stretch-most grows (g .middle),
-          stretch-most grows (g .back),
+          stretch-most grows [] 0 (g .front),
+          stretch-most grows [] 0 (g .middle),
+          stretch-most grows [] 0 (g .back),
+          same 0 (p .at),
+          same (p .inside) (p .from),
+          same (p .to) (length s),
           room .long,
           room .inside,
           stretch-length (g .middle),
@@ -265,8 +280,8 @@ module _ (s key value : List ℕ) (p : Splice) where
         )
 
 -- a canonical text is never longer than its source
-pub canonical-text-most : (s : List ℕ) → length (canonicalText s) ≤ length s
-canonical-text-most s = omega (arith, between-most shrinks s 0 (length s), between-length s 0 (length s))
+pub canonical-text-most : (t s : List ℕ) → length (canonicalText t s) ≤ length s
+canonical-text-most t s = omega (arith, between-most shrinks t 0 s 0 (length s), between-length s 0 (length s))
 
-pub canonical-within : (s : List ℕ) → length s ≤ sourceLimit → Within (canonicalText s) 0
-canonical-within s h = record { low = omega (arith, canonical-text-most s) }
+pub canonical-within : (t s : List ℕ) → length s ≤ sourceLimit → Within (canonicalText t s) 0
+canonical-within t s h = record { low = omega (arith, canonical-text-most t s) }

@@ -16,11 +16,12 @@ use Rattle.decimal.proofs.Decide.{Order, below, above, order, T-of}
 use Rattle.decimal.proofs.Numerals.{decimal-large, decimal-some, digits-are, digits-split, spelling}
 use Rattle.format.specs.Bytes.{byte}
 use Rattle.format.specs.Syntax.{null, int, float, unsigned, Literal}
+use Rattle.format.specs.Table.{wordAt, tagWord}
 use Rattle.bytes_at.specs.ByteAt.{byteAt}
 use Rattle.bytes_at.proofs.BytesAt.{byte-there, drop-byte}
 use Rattle.bytes_at.proofs.Runs.{run-rest}
 use Rattle.scanner.specs.Parts.{PlainEnd}
-use Rattle.tokens.specs.Tokens.{Token, scalar, readToken, writeToken, TokenFits}
+use Rattle.tokens.specs.Tokens.{Token, scalar, readToken, writeToken, TokenFits, nodeBehind}
 use Rattle.tokens.proofs.TokenLaws.{token-front, token-longer, token-printed}
 use Rattle.tokens.proofs.Stretches.{between-more}
 use Rattle.rewriting.specs.declared.rewrite.Change.{Change}
@@ -32,16 +33,20 @@ use Rattle.rewriting.proofs.Staying.{no-zeros, front-of}
 
 -- a token that no change changes
 passes-token : (s : List ℕ) (at : ℕ) (t : Token) (next : ℕ) → drop at s ≡ writeToken t (drop next s) → next ≤ length s → TokenFits t
-    → ((c : Change) → changedToken c t ≡ t) → Passes s at next
-passes-token s at t next e h f same =
+    → ((c : Change) (g : ℕ) → changedToken c g t ≡ t) → ((i : ℕ) → nodeBehind i t ≡ suc i) → Passes s at next
+passes-token s at t next e h f same more =
     let longer : length (drop next s) < length (drop at s) = omega (arith, token-longer t (drop next s), ap length e) in
     record {
       on = omega (arith, longer, length-drop at s, length-drop next s);
       inside = h;
-      split = λ c to i.
-          ap (changedText c) (between-more s at to t next i (omega (arith, longer, length-drop at s)) (ap (readToken 0) e ∙ token-printed 0 t (drop next s) f))
-          ∙ token-front (changedToken c t) [] (rewrittenText c s next to)
-          ∙ ap (λ (l : List ℕ). l ++ rewrittenText c s next to) (ap (λ (u : Token). writeToken u []) (same c) ∙ sym (token-bytes s at t next e h));
+      split = λ c table node to i.
+          let g : ℕ = wordAt table node tagWord in
+          let rest : List ℕ = rewrittenText c table (suc node) s next to in
+          ap (changedText c table node)
+          (between-more s at to t next i (omega (arith, longer, length-drop at s)) (ap (readToken 0) e ∙ token-printed 0 t (drop next s) f))
+          ∙ ap (λ (k : ℕ). writeToken (changedToken c g t) (rewrittenText c table k s next to)) (more node)
+          ∙ token-front (changedToken c g t) [] rest
+          ∙ ap (λ (l : List ℕ). l ++ rest) (ap (λ (u : Token). writeToken u []) (same c g) ∙ sym (token-bytes s at t next e h));
     }
 
 -- a tag, and the byte behind it
@@ -57,11 +62,11 @@ module _ (s : List ℕ) (at b c : ℕ) (t : TagAt s at b) (l : c < 256) (e : eqb
       two = omega arith
 
 pub plain-null : (s : List ℕ) (at : ℕ) → TagAt s at (byte "N") → eqb (byteAt s (at + 1)) (byte ";") ≡ true → Passes s at (at + 2)
-plain-null s at t e = passes-token s at (scalar null) (at + 2) (tagged s at 78 59 t (lit< tt) e) (omega (arith, byte-there s (at + 1) 59 (lit< tt) e)) tt same
+plain-null s at t e = passes-token s at (scalar null) (at + 2) (tagged s at 78 59 t (lit< tt) e) (omega (arith, byte-there s (at + 1) 59 (lit< tt) e)) tt same (λ i. refl)
   where
-    same : (c : Change) → changedToken c (scalar null) ≡ scalar null
-    same Change.Canonical = refl
-    same (Change.Renumber m) = refl
+    same : (c : Change) (g : ℕ) → changedToken c g (scalar null) ≡ scalar null
+    same Change.Canonical g = refl
+    same (Change.Renumber m) g = refl
 
 -- so many digits, no more than that
 few-digits : (k n : ℕ) → length (decimal n) ≤ k → n < 10 ^ k
@@ -86,7 +91,7 @@ module _ (s : List ℕ) (at : ℕ) (t : TagAt s at (byte "i")) (colon : eqb (byt
     pub plain-int : ShortestFront (getD s (at + 2) 0) (getD s (at + 3) 0) → Passes s at (run .next + 1)
     plain-int f =
         passes-token s at (scalar (int i)) (run .next + 1) (written-with 0 digits-are-shortest)
-        (omega (arith, byte-there s (run .next) 59 (lit< tt) stop)) fits same
+        (omega (arith, byte-there s (run .next) 59 (lit< tt) stop)) fits same (λ i. refl)
       where
         text : List ℕ
         text = drop (at + 2) s
@@ -119,13 +124,13 @@ module _ (s : List ℕ) (at : ℕ) (t : TagAt s at (byte "i")) (colon : eqb (byt
         fits : n ≤ 9223372036854775807
         fits = omega (arith, few-digits 18 n (omega (arith, few, r .next, ap length digits-are-shortest)))
 
-        same : (c : Change) → changedToken c (scalar (int i)) ≡ scalar (int i)
-        same Change.Canonical = refl
-        same (Change.Renumber m) = refl
+        same : (c : Change) (g : ℕ) → changedToken c g (scalar (int i)) ≡ scalar (int i)
+        same Change.Canonical g = refl
+        same (Change.Renumber m) g = refl
 
 pub plain-float : (s : List ℕ) (at : ℕ) → TagAt s at (byte "d") → eqb (byteAt s (at + 1)) (byte ":") ≡ true → {end : ℕ} → PlainEnd s (at + 2) end
     → Passes s at (end + 1)
-plain-float s at t colon {end} p = passes-token s at (scalar (float text)) (end + 1) written (omega (arith, p .inside)) (T-of (p .float)) same
+plain-float s at t colon {end} p = passes-token s at (scalar (float text)) (end + 1) written (omega (arith, p .inside)) (T-of (p .float)) same (λ i. refl)
   where
     text : List ℕ
     text = take (end - (at + 2)) (drop (at + 2) s)
@@ -144,6 +149,6 @@ plain-float s at t colon {end} p = passes-token s at (scalar (float text)) (end 
         tagged s at 100 58 t (lit< tt) colon
         ∙ ap {B = List ℕ} (λ l. 100 ∷ 58 ∷ l) (sym (take-append-drop (end - (at + 2)) (drop (at + 2) s)) ∙ ap (λ (l : List ℕ). text ++ l) behind)
 
-    same : (c : Change) → changedToken c (scalar (float text)) ≡ scalar (float text)
-    same Change.Canonical = refl
-    same (Change.Renumber m) = refl
+    same : (c : Change) (g : ℕ) → changedToken c g (scalar (float text)) ≡ scalar (float text)
+    same Change.Canonical g = refl
+    same (Change.Renumber m) g = refl

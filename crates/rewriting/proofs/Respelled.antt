@@ -218,7 +218,7 @@ module _ (s : List ℕ) (at : ℕ) (x : Text) where
 
 module _ (s : List ℕ) (at : ℕ) (x : Text) where
   -- the first byte of what stands there is the token's
-  first-of : (t : Token) → Stands s at t x → getD s at 0 ≡ tagged t (drop (x .next) s) .byte
+  pub first-of : (t : Token) → Stands s at t x → getD s at 0 ≡ tagged t (drop (x .next) s) .byte
   first-of t st = let g = tagged t (drop (x .next) s) in first-byte s at (g .byte) (g .behind) (st .written ∙ g .is)
 
   named-bound : (t : Token) → Stands s at t x → Refers t → x .content ≤ numberLimit
@@ -267,9 +267,10 @@ module _ (m : Renumbering) (s : List ℕ) (at : ℕ) (x : Text) where
   renumbered-is closing st = other closing st (λ e. e)
 
 -- what is written of a token is the changed token
-pub changed-is : (c : Change) (s : List ℕ) (at : ℕ) (x : Text) (t : Token) → Stands s at t x → respelledText c s at x ≡ writeToken (changedToken c t) []
-changed-is Change.Canonical s at x t st = respelled s at x t st
-changed-is (Change.Renumber m) s at x t st = renumbered-is m s at x t st
+pub changed-is : (c : Change) (g : ℕ) (s : List ℕ) (at : ℕ) (x : Text) (t : Token) → Stands s at t x
+    → respelledText c g s at x ≡ writeToken (changedToken c g t) []
+changed-is Change.Canonical g s at x t st = respelled s at x t st
+changed-is (Change.Renumber m) g s at x t st = renumbered-is m s at x t st
 
 -- ---- what is copied stands in the source
 

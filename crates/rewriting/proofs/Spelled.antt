@@ -100,12 +100,12 @@ module _ (m : Renumbering) (s : List ℕ) (at : ℕ) (x : Text) where
 
 -- ---- by the change
 
-module _ {c : Change} (s : List ℕ) (at : ℕ) (x : Text) where
-  pub as-canonical : c ≡ Change.Canonical → respelledText c s at x ≡ shortestText s at x
-  as-canonical e = ap (λ (d : Change). respelledText d s at x) e
+module _ {c : Change} (g : ℕ) (s : List ℕ) (at : ℕ) (x : Text) where
+  pub as-canonical : c ≡ Change.Canonical → respelledText c g s at x ≡ shortestText s at x
+  as-canonical e = ap (λ (d : Change). respelledText d g s at x) e
 
-  pub as-renumbered : {m : Renumbering} → c ≡ Change.Renumber m → respelledText c s at x ≡ renumberedText m s at x
-  as-renumbered e = ap (λ (d : Change). respelledText d s at x) e
+  pub as-renumbered : {m : Renumbering} → c ≡ Change.Renumber m → respelledText c g s at x ≡ renumberedText m s at x
+  as-renumbered e = ap (λ (d : Change). respelledText d g s at x) e
 
 -- a reference is more than its tag
 pub more-of : {s : List ℕ} {at : ℕ} {x : Text} → Bounds s at x → ReferenceTag (getD s at 0) → at + 2 ≤ x .next

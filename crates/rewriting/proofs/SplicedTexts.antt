@@ -14,8 +14,9 @@ use Rattle.rewriting.specs.declared.rewrite.Change.{Change}
 use Rattle.rewriting.specs.declared.splice.Renumbering.{Renumbering}
 use Rattle.rewriting.specs.declared.splice.Splice.{Splice}
 use Rattle.rewriting.specs.Output.{Within, Puts}
-use Rattle.rewriting.specs.Rewriting.{Sound, rewrittenText}
+use Rattle.rewriting.specs.Rewriting.{Sound, rewrittenText, renumberedBetween}
 use Rattle.rewriting.specs.Edited.{splicedHead, splicedText, stands, Spliceable}
+use Rattle.rewriting.proofs.Anywhere.{renumbered-anywhere}
 use Rattle.rewriting.proofs.Outputs.{puts-then, puts-as, within-as, within-first, within-then, slice-of}
 
 -- ---- the tests, one after another
@@ -88,50 +89,62 @@ all-of : (l : List ℕ) → slice 0 (length l) l ≡ l
 all-of l = slice-of l 0 [] l [] (sym (append-nil l)) 0 (length l) refl (omega arith)
 
 module _ {s key value : List ℕ} {p : Splice} (a : Spliceable s key value p) where
-  abbrev c : Change
-  c = Change.Renumber (p .renumbering)
-
   pub room : Room (length s) p
   room = room-of (length s) p (a .stands)
 
-  sound : Sound c
-  sound = sound-of room
+  abbrev c : Change
+  c = Change.Renumber (p .renumbering)
 
-  pub front-within : Sound c × Within (rewrittenText c s 0 (p .at)) 0
-  front-within = (sound, within-first _ _ _ (a .within))
+  -- what is written of a stretch
+  abbrev between : (from to : ℕ) → List ℕ
+  between = renumberedBetween (p .renumbering) s
 
-  module _ {out out₁ : List ℕ} {r₁ : ℕ} (p₁ : Puts (rewrittenText c s 0 (p .at)) 0 out r₁ out₁) where
-    w₁ : Within (splicedHead s p ++ (rewrittenText c s (p .inside) (p .from) ++ (key ++ (value ++ rewrittenText c s (p .to) (length s))))) r₁
-    w₁ = within-then (a .within) p₁
+  -- with room for it, it can be written
+  writes : (t : List ℕ) (from to w : ℕ) → Within (between from to) w → (0 ≤ from) × Sound c × Within (rewrittenText c t 0 s from to) w
+  writes t from to w h = (omega arith, sound-of room, within-as (sym (renumbered-anywhere (p .renumbering) t 0 s from to)) h)
+
+  wrote : (t : List ℕ) (from to : ℕ) {w : ℕ} {out : List ℕ} {e : ℕ} {out′ : List ℕ} → Puts (rewrittenText c t 0 s from to) w out e out′
+      → Puts (between from to) w out e out′
+  wrote t from to q = puts-as (sym (renumbered-anywhere (p .renumbering) t 0 s from to)) q
+
+module _ {s key value : List ℕ} {p : Splice} (a : Spliceable s key value p) (t : List ℕ) where
+  pub front-within : (0 ≤ 0) × Sound (c a) × Within (rewrittenText (c a) t 0 s 0 (p .at)) 0
+  front-within = writes a t 0 (p .at) 0 (within-first _ _ _ (a .within))
+
+  module _ {out out₁ : List ℕ} {r₁ : ℕ} (p₁ : Puts (rewrittenText (c a) t 0 s 0 (p .at)) 0 out r₁ out₁) where
+    w₁ : Within (splicedHead s p ++ (between a (p .inside) (p .from) ++ (key ++ (value ++ between a (p .to) (length s))))) r₁
+    w₁ = within-then (a .within) (wrote a t 0 (p .at) p₁)
 
     pub head-within : Within (splicedHead s p) r₁
     head-within = within-first _ _ _ w₁
 
     module _ {out₂ : List ℕ} {r₂ : ℕ} (p₂ : Puts (splicedHead s p) r₁ out₁ r₂ out₂) where
-      w₂ : Within (rewrittenText c s (p .inside) (p .from) ++ (key ++ (value ++ rewrittenText c s (p .to) (length s)))) r₂
+      w₂ : Within (between a (p .inside) (p .from) ++ (key ++ (value ++ between a (p .to) (length s)))) r₂
       w₂ = within-then w₁ p₂
 
-      pub middle-within : Sound c × Within (rewrittenText c s (p .inside) (p .from)) r₂
-      middle-within = (sound, within-first _ _ _ w₂)
+      pub middle-within : (0 ≤ p .inside) × Sound (c a) × Within (rewrittenText (c a) t 0 s (p .inside) (p .from)) r₂
+      middle-within = writes a t (p .inside) (p .from) r₂ (within-first _ _ _ w₂)
 
-      module _ {out₃ : List ℕ} {r₃ : ℕ} (p₃ : Puts (rewrittenText c s (p .inside) (p .from)) r₂ out₂ r₃ out₃) where
-        w₃ : Within (key ++ (value ++ rewrittenText c s (p .to) (length s))) r₃
-        w₃ = within-then w₂ p₃
+      module _ {out₃ : List ℕ} {r₃ : ℕ} (p₃ : Puts (rewrittenText (c a) t 0 s (p .inside) (p .from)) r₂ out₂ r₃ out₃) where
+        w₃ : Within (key ++ (value ++ between a (p .to) (length s))) r₃
+        w₃ = within-then w₂ (wrote a t (p .inside) (p .from) p₃)
 
         pub key-within : Within (slice 0 (length key) key) r₃
         key-within = within-as (sym (all-of key)) (within-first _ _ _ w₃)
 
         module _ {out₄ : List ℕ} {r₄ : ℕ} (p₄ : Puts (slice 0 (length key) key) r₃ out₃ r₄ out₄) where
-          w₄ : Within (value ++ rewrittenText c s (p .to) (length s)) r₄
+          w₄ : Within (value ++ between a (p .to) (length s)) r₄
           w₄ = within-then w₃ (puts-as (sym (all-of key)) p₄)
 
           pub value-within : Within (slice 0 (length value) value) r₄
           value-within = within-as (sym (all-of value)) (within-first _ _ _ w₄)
 
           module _ {out₅ : List ℕ} {r₅ : ℕ} (p₅ : Puts (slice 0 (length value) value) r₄ out₄ r₅ out₅) where
-            pub back-within : Sound c × Within (rewrittenText c s (p .to) (length s)) r₅
-            back-within = (sound, within-then w₄ (puts-as (sym (all-of value)) p₅))
+            pub back-within : (0 ≤ p .to) × Sound (c a) × Within (rewrittenText (c a) t 0 s (p .to) (length s)) r₅
+            back-within = writes a t (p .to) (length s) r₅ (within-then w₄ (puts-as (sym (all-of value)) p₅))
 
-            pub all-put : {out₆ : List ℕ} {r₆ : ℕ} → Puts (rewrittenText c s (p .to) (length s)) r₅ out₅ r₆ out₆
+            pub all-put : {out₆ : List ℕ} {r₆ : ℕ} → Puts (rewrittenText (c a) t 0 s (p .to) (length s)) r₅ out₅ r₆ out₆
                 → Puts (splicedText s key value p) 0 out r₆ out₆
-            all-put p₆ = puts-then p₁ (puts-then p₂ (puts-then p₃ (puts-then (puts-as (sym (all-of key)) p₄) (puts-then (puts-as (sym (all-of value)) p₅) p₆))))
+            all-put p₆ =
+                puts-then (wrote a t 0 (p .at) p₁) (puts-then p₂ (puts-then (wrote a t (p .inside) (p .from) p₃)
+                (puts-then (puts-as (sym (all-of key)) p₄) (puts-then (puts-as (sym (all-of value)) p₅) (wrote a t (p .to) (length s) p₆)))))

@@ -140,8 +140,8 @@ module _ (s : List ℕ) (at : ℕ) (x : Text) where
 
 -- ---- whether it stays
 
-module _ {c : Change} (s : List ℕ) (at : ℕ) (x : Text) where
-  does-stay : respelledText c s at x ≡ slice at (x .next) s → Stays c s at x true
+module _ {c : Change} (g : ℕ) (s : List ℕ) (at : ℕ) (x : Text) where
+  does-stay : respelledText c g s at x ≡ slice at (x .next) s → Stays c g s at x true
   does-stay e = record { kept = λ i. e; changes = λ i. absurd (true≢false i) }
 
   -- canonical text: nothing is asked of a token that is written again
@@ -151,29 +151,29 @@ module _ {c : Change} (s : List ℕ) (at : ℕ) (x : Text) where
       never : (m : Renumbering) → Change.Canonical ≡ Change.Renumber m → ⊥
       never m j = let z : _≡_ {A = ℕ} 0 1 = cc in omega arith
 
-  pub unnumbered-stays : c ≡ Change.Canonical → Unnumbered (getD s at 0) → Stays c s at x true
-  unnumbered-stays e p = does-stay (as-canonical s at x e ∙ unnumbered-text s at x p)
+  pub unnumbered-stays : c ≡ Change.Canonical → Unnumbered (getD s at 0) → Stays c g s at x true
+  unnumbered-stays e p = does-stay (as-canonical g s at x e ∙ unnumbered-text s at x p)
 
-  pub object-changes : c ≡ Change.Canonical → Stays c s at x false
+  pub object-changes : c ≡ Change.Canonical → Stays c g s at x false
   object-changes e = record { kept = λ i. absurd (false≢true i); changes = λ i. rewritten-whatever e }
 
   pub number-stays : Found readToken (tokenTold at) s at x → c ≡ Change.Canonical → (getD s at 0 ≡ tag Kind.object → ⊥) → (r : Bool)
-      → (r ≡ true → ShortestFront (getD s (at + 2) 0) (getD s (at + 3) 0)) → Stays c s at x r
-  number-stays f e n r g = record { kept = λ i. same (g i); changes = λ i. rewritten-whatever e }
+      → (r ≡ true → ShortestFront (getD s (at + 2) 0) (getD s (at + 3) 0)) → Stays c g s at x r
+  number-stays f e n r l = record { kept = λ i. same (l i); changes = λ i. rewritten-whatever e }
     where
       st : Stands s at (f .what) x
       st = found-stands s at x f
 
-      same : ShortestFront (getD s (at + 2) 0) (getD s (at + 3) 0) → respelledText c s at x ≡ slice at (x .next) s
+      same : ShortestFront (getD s (at + 2) 0) (getD s (at + 3) 0) → respelledText c g s at x ≡ slice at (x .next) s
       same h =
-          as-canonical s at x e ∙ respelled s at x (f .what) st ∙ ap (λ (t : Token). writeToken t []) (same-token s at x n (f .what) st h)
+          as-canonical g s at x e ∙ respelled s at x (f .what) st ∙ ap (λ (t : Token). writeToken t []) (same-token s at x n (f .what) st h)
           ∙ sym (whole s at x (f .what) st)
 
   module _ {m : Renumbering} (e : c ≡ Change.Renumber m) where
-    pub reference-stays : ReferenceTag (getD s at 0) → isRenumbered m (x .content) ≡ false → Stays c s at x true
-    reference-stays o h = does-stay (as-renumbered s at x e ∙ spelled-kept m s at x o h)
+    pub reference-stays : ReferenceTag (getD s at 0) → isRenumbered m (x .content) ≡ false → Stays c g s at x true
+    reference-stays o h = does-stay (as-renumbered g s at x e ∙ spelled-kept m s at x o h)
 
-    pub reference-changes : ReferenceTag (getD s at 0) → isRenumbered m (x .content) ≡ true → Stays c s at x false
+    pub reference-changes : ReferenceTag (getD s at 0) → isRenumbered m (x .content) ≡ true → Stays c g s at x false
     reference-changes o h = record {
       kept = λ i. absurd (false≢true i);
       changes = λ i. record { moves = λ n j. (o, subst (λ (u : Renumbering). isRenumbered u (x .content) ≡ true) (one (sym e ∙ j)) h) };
@@ -182,5 +182,5 @@ module _ {c : Change} (s : List ℕ) (at : ℕ) (x : Text) where
         one : {n : Renumbering} → Change.Renumber m ≡ Change.Renumber n → m ≡ n
         one j = cc
 
-    pub other-stays : (ReferenceTag (getD s at 0) → ⊥) → Stays c s at x true
-    other-stays n = does-stay (as-renumbered s at x e ∙ spelled-other m s at x n)
+    pub other-stays : (ReferenceTag (getD s at 0) → ⊥) → Stays c g s at x true
+    other-stays n = does-stay (as-renumbered g s at x e ∙ spelled-other m s at x n)

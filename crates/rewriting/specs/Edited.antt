@@ -15,11 +15,11 @@ use Rattle.rewriting.specs.declared.rewrite.Change.{Change}
 use Rattle.rewriting.specs.declared.splice.Splice.{Splice}
 use Rattle.rewriting.specs.Output.{Within}
 use Rattle.rewriting.specs.Shortest.{numberedText}
-use Rattle.rewriting.specs.Rewriting.{rewrittenText}
+use Rattle.rewriting.specs.Rewriting.{rewrittenText, renumberedBetween}
 
 -- "Every integer and number in shortest decimal form"
-abbrev pub canonicalText : List ℕ → List ℕ
-canonicalText s = rewrittenText Change.Canonical s 0 (length s)
+abbrev pub canonicalText : (table s : List ℕ) → List ℕ
+canonicalText t s = rewrittenText Change.Canonical t 0 s 0 (length s)
 
 -- the array's head with its new count: its tag and colon, the count in shortest form, a colon and a brace
 abbrev pub splicedHead : List ℕ → Splice → List ℕ
@@ -29,13 +29,13 @@ splicedHead s p = numberedText s (p .at) (p .count) (p .inside - 2) (p .inside)
 -- renumbered, wherever they stand
 abbrev pub splicedText : (s key value : List ℕ) → Splice → List ℕ
 splicedText s key value p =
-    rewrittenText (Change.Renumber (p .renumbering)) s 0 (p .at)
-    ++ (splicedHead s p ++ (rewrittenText (Change.Renumber (p .renumbering)) s (p .inside) (p .from)
-    ++ (key ++ (value ++ rewrittenText (Change.Renumber (p .renumbering)) s (p .to) (length s)))))
+    renumberedBetween (p .renumbering) s 0 (p .at)
+    ++ (splicedHead s p ++ (renumberedBetween (p .renumbering) s (p .inside) (p .from)
+    ++ (key ++ (value ++ renumberedBetween (p .renumbering) s (p .to) (length s)))))
 
-abbrev pub editedText : (s : List ℕ) → Edit → (key value : List ℕ) → List ℕ
-editedText s Edit.Canonical key value = canonicalText s
-editedText s (Edit.Splice p) key value = splicedText s key value p
+abbrev pub editedText : (s table : List ℕ) → Edit → (key value : List ℕ) → List ℕ
+editedText s t Edit.Canonical key value = canonicalText t s
+editedText s t (Edit.Splice p) key value = splicedText s key value p
 
 -- ---- what is edited at all: texts that a plan can hold, and a splice whose head is there, and whose numbers do not overflow
 
@@ -60,10 +60,10 @@ editedAnswer (Edited.Written size) = ok size
 editedAnswer Edited.Unfit = refused 14 0
 
 -- what is to write
-abbrev pub editedBytes : (s : List ℕ) → Edit → (key value : List ℕ) → Answer (List ℕ)
-editedBytes s e key value = do
+abbrev pub editedBytes : (s table : List ℕ) → Edit → (key value : List ℕ) → Answer (List ℕ)
+editedBytes s t e key value = do
   _ ← require (writable (length s) e (length key) (length value)) 14 0
-  ok (editedText s e key value)
+  ok (editedText s t e key value)
 
 -- the length of the whole, whatever the room
 abbrev pub lengthEdited : Answer (List ℕ) → Answer ℕ
@@ -75,9 +75,9 @@ outputEdited (ok bytes) out = sets out 0 bytes
 outputEdited (refused n p) out = out
 
 -- the answer, and every byte of the output, for every input
-pub record Edits (s : List ℕ) (e : Edit) (key value out out′ : List ℕ) (r : Edited) : Type 0 where
-  pub answer : editedAnswer r ≡ lengthEdited (editedBytes s e key value)
-  pub output : out′ ≡ outputEdited (editedBytes s e key value) out
+pub record Edits (s table : List ℕ) (e : Edit) (key value out out′ : List ℕ) (r : Edited) : Type 0 where
+  pub answer : editedAnswer r ≡ lengthEdited (editedBytes s table e key value)
+  pub output : out′ ≡ outputEdited (editedBytes s table e key value) out
 
 -- ---- what holds of a splice
 

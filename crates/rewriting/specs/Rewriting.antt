@@ -9,12 +9,13 @@ use lib.Seq.{slice}
 use Rattle.format.specs.Kind.{Kind, isTagOf}
 use Rattle.format.specs.Syntax.{Reference}
 use Rattle.format.specs.Limits.{numberLimit}
+use Rattle.format.specs.Table.{wordAt, tagWord}
 use Rattle.format.specs.Canonical.{shortest}
 use Rattle.scanner.specs.declared.Text.{Text}
 use Rattle.rewriting.specs.declared.rewrite.Change.{Change}
 use Rattle.rewriting.specs.declared.splice.Renumbering.{Renumbering}
 use Rattle.rewriting.specs.Shortest.{numberedText, shortestText}
-use Rattle.tokens.specs.Tokens.{Token, scalar, reference, opening, closing, ReferenceTag, writeTokens, canonicalToken}
+use Rattle.tokens.specs.Tokens.{Token, scalar, reference, opening, closing, ReferenceTag, writeTokens, canonicalToken, atNodes}
 use Rattle.tokens.specs.Between.{tokensBetween}
 
 -- no number falls below zero, and none overflows
@@ -47,9 +48,10 @@ unfoldable pub renumberedText : Renumbering → List ℕ → (at : ℕ) → Text
 renumberedText m s at x =
     renumberedIf (isTagOf (Kind.objectReference ∷ Kind.variableReference ∷ []) (getD s at 0) && isRenumbered m (x .content)) m s at x
 
-abbrev pub respelledText : Change → List ℕ → (at : ℕ) → Text → List ℕ
-respelledText Change.Canonical s at x = shortestText s at x
-respelledText (Change.Renumber m) s at x = renumberedText m s at x
+-- told the tag that the table has for its node; neither change asks for it yet
+abbrev pub respelledText : Change → (tag : ℕ) → List ℕ → (at : ℕ) → Text → List ℕ
+respelledText Change.Canonical tag s at x = shortestText s at x
+respelledText (Change.Renumber m) tag s at x = renumberedText m s at x
 
 -- ---- tokens
 
@@ -66,13 +68,21 @@ renumberedToken m (reference r) = reference (renumbered m r)
 renumberedToken m (opening h n) = opening h n
 renumberedToken m closing = closing
 
-abbrev pub changedToken : Change → Token → Token
-changedToken Change.Canonical t = canonicalToken t
-changedToken (Change.Renumber m) t = renumberedToken m t
+-- what becomes of a token, the table's tag of its node being told
+abbrev pub changedToken : Change → (tag : ℕ) → Token → Token
+changedToken Change.Canonical tag t = canonicalToken t
+changedToken (Change.Renumber m) tag t = renumberedToken m t
 
-abbrev pub changedText : Change → List Token → List ℕ
-changedText c ts = writeTokens (map (changedToken c) ts) []
+abbrev pub changedText : Change → (table : List ℕ) → (node : ℕ) → List Token → List ℕ
+changedText c table node ts = writeTokens (atNodes (λ i. changedToken c (wordAt table i tagWord)) node ts) []
 
--- of whatever stands from one index up to another
-abbrev pub rewrittenText : Change → List ℕ → (from to : ℕ) → List ℕ
-rewrittenText c s from to = changedText c (tokensBetween s from to)
+-- of whatever stands from one index up to another, the first token's node being given
+abbrev pub rewrittenText : Change → (table : List ℕ) → (node : ℕ) → List ℕ → (from to : ℕ) → List ℕ
+rewrittenText c table node s from to = changedText c table node (tokensBetween s from to)
+
+-- renumbering asks for no node (`renumbered-anywhere`)
+abbrev pub renumberedBytes : Renumbering → List Token → List ℕ
+renumberedBytes m ts = writeTokens (map (renumberedToken m) ts) []
+
+abbrev pub renumberedBetween : Renumbering → List ℕ → (from to : ℕ) → List ℕ
+renumberedBetween m s from to = renumberedBytes m (tokensBetween s from to)

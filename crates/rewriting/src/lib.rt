@@ -3,6 +3,7 @@
 // Nothing else is refused. The editor calls `write`, first into an empty output where the text has to be measured.
 // The text is defined on any bytes (specs/Edited, `editedText`), and the code equals it. That it is the right text for a plan that was read is a lemma: tokens
 // that fill the bytes are those between (`between-stretch`, crates/tokens).
+// The table is that of the plan which was read: what becomes of a token may ask for its node's tag. A table of other words gives what the definition says.
 // Goes by tokens, scanned again, since no tag's offset stands in the table: those that stay are passed and copied as one stretch, the others written again.
 use crate::rewrite::Change;
 use crate::rewrite::rewrite;
@@ -51,15 +52,22 @@ fn can_write(size: usize, edit: Edit, key: usize, value: usize) -> bool
 }
 
 // Writes the edited source, as far as there is room; into an empty output it is measured.
-pub fn write(source: &[u8], edit: Edit, key: &[u8], value: &[u8], out: &mut [u8]) -> Edited
-    ensures { λ r. ⌜ Edits (now (source .entry)) edit (now (key .entry)) (now (value .entry)) (now (out .entry)) (now (out .exit)) r ⌝ }
+pub fn write(
+    source: &[u8],
+    table: &[u64],
+    edit: Edit,
+    key: &[u8],
+    value: &[u8],
+    out: &mut [u8],
+) -> Edited
+    ensures { λ r. ⌜ Edits (now (source .entry)) (now (table .entry)) edit (now (key .entry)) (now (value .entry)) (now (out .entry)) (now (out .exit)) r ⌝ }
 {
     if !can_write(source.len(), edit, key.len(), value.len()) {
         return Edited::Unfit;
     }
     let length = match edit {
-        Edit::Canonical => rewrite(source, 0, source.len(), Change::Canonical, out, 0),
-        Edit::Splice(splice) => write_spliced(source, splice, key, value, out),
+        Edit::Canonical => rewrite(source, table, 0, source.len(), 0, Change::Canonical, out, 0),
+        Edit::Splice(splice) => write_spliced(source, table, splice, key, value, out),
     };
     Edited::Written(length)
 }

@@ -6,8 +6,11 @@ use crate::shortest::numbered;
 use crate::shortest::shortest;
 use crate::splice::Renumbering;
 use crate::stretch::Stop;
+use crate::stretch::next_node;
 use crate::stretch::stretch;
 use scanner::Text;
+use tables::tag_at;
+ghost use Prim.Native.Nat.{_≤_};
 ghost use Rattle.rewriting.specs.Output.{Within, Puts};
 ghost use Rattle.rewriting.specs.Shortest.{Bounds};
 ghost use Rattle.rewriting.specs.Rewriting.{Sound, Named, respelledText, rewrittenText};
@@ -20,10 +23,18 @@ pub enum Change {
 }
 
 // The token at an index, whose text is known, changed: in canonical spelling, or a reference renumbered.
-fn respell(source: &[u8], at: usize, text: Text, change: Change, out: &mut [u8], w: usize) -> usize
+fn respell(
+    source: &[u8],
+    at: usize,
+    text: Text,
+    tag: u64,
+    change: Change,
+    out: &mut [u8],
+    w: usize,
+) -> usize
     requires { ⌜ Sound change × Bounds (now source) at text × Named (now source) at text × Changes change (now source) at text
-        × Within (respelledText change (now source) at text) w ⌝ }
-    ensures { λ r. ⌜ Puts (respelledText change (now (source .entry)) at text) w (now (out .entry)) r (now (out .exit)) ⌝ }
+        × Within (respelledText change tag (now source) at text) w ⌝ }
+    ensures { λ r. ⌜ Puts (respelledText change tag (now (source .entry)) at text) w (now (out .entry)) r (now (out .exit)) ⌝ }
 {
     match change {
         Change::Canonical => shortest(source, at, text, out, w),
@@ -35,30 +46,35 @@ fn respell(source: &[u8], at: usize, text: Text, change: Change, out: &mut [u8],
     }
 }
 
-// Writes the tokens from one index up to another, or to the first that is none, as far as there is room; the index behind them.
+// Writes the tokens from one index up to another, or to the first that is none, as far as there is room; the index behind them. Each token but a closing
+// brace is the next node, from the first on.
 pub(crate) fn rewrite(
     source: &[u8],
+    table: &[u64],
     from: usize,
     to: usize,
+    first: usize,
     change: Change,
     out: &mut [u8],
     w: usize,
 ) -> usize
-    requires { ⌜ Sound change × Within (rewrittenText change (now source) from to) w ⌝ }
-    ensures { λ r. ⌜ Puts (rewrittenText change (now (source .entry)) from to) w (now (out .entry)) r (now (out .exit)) ⌝ }
+    requires { ⌜ (first ≤ from) × Sound change × Within (rewrittenText change (now table) first (now source) from to) w ⌝ }
+    ensures { λ r. ⌜ Puts (rewrittenText change (now (table .entry)) first (now (source .entry)) from to) w (now (out .entry)) r (now (out .exit)) ⌝ }
 {
     if source.len() < from {
         return w;
     }
     let mut kept = from;
+    let mut next = first;
     let mut end = w;
     loop {
-        match stretch(source, kept, to, change) {
+        match stretch(source, table, kept, to, next, change) {
             Stop::End(at) => return copy(source, kept, at, out, end),
-            Stop::Token { at, text } => {
+            Stop::Token { at, text, node } => {
                 let start = copy(source, kept, at, out, end);
-                end = respell(source, at, text, change, out, start);
+                end = respell(source, at, text, tag_at(table, node), change, out, start);
                 kept = text.next;
+                next = next_node(source, at, node);
             }
         }
     }

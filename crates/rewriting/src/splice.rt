@@ -49,9 +49,10 @@ pub(crate) fn can_splice(size: usize, splice: Splice) -> bool
     renumbering.down <= renumbering.from
 }
 
-// Writes the spliced source, as far as there is room; its length.
+// Writes the spliced source, as far as there is room; its length. Renumbering asks for no node, so none is counted.
 pub(crate) fn write_spliced(
     source: &[u8],
+    table: &[u64],
     splice: Splice,
     key: &[u8],
     value: &[u8],
@@ -64,10 +65,28 @@ pub(crate) fn write_spliced(
     let inside = splice.inside;
     let renumbering = splice.renumbering;
     let renumber = Change::Renumber(renumbering);
-    let before = rewrite(source, 0, at, renumber, out, 0);
+    let before = rewrite(source, table, 0, at, 0, renumber, out, 0);
     let counted = numbered(source, at, splice.count, inside - 2, inside, out, before);
-    let upto = rewrite(source, inside, splice.from, renumber, out, counted);
+    let upto = rewrite(
+        source,
+        table,
+        inside,
+        splice.from,
+        0,
+        renumber,
+        out,
+        counted,
+    );
     let keyed = copy(key, 0, key.len(), out, upto);
     let valued = copy(value, 0, value.len(), out, keyed);
-    rewrite(source, splice.to, source.len(), renumber, out, valued)
+    rewrite(
+        source,
+        table,
+        splice.to,
+        source.len(),
+        0,
+        renumber,
+        out,
+        valued,
+    )
 }

@@ -1,4 +1,5 @@
 pub mod TokenLaws
+pub mod Nodes
 mod Scanned
 pub mod Tagged
 pub mod Standing

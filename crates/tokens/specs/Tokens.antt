@@ -3,8 +3,9 @@ use mathlib.Core.Path.{_≡_}
 use mathlib.Core.Logic.{_⊎_}
 use mathlib.Core.List.{List, [], _∷_, _++_}
 use mathlib.Core.Bool.{true, false}
-use Prim.Native.Nat.{ℕ, _+_, _-_, _≤_}
+use Prim.Native.Nat.{ℕ, suc, _+_, _-_, _≤_}
 use lib.Dec.{eqb}
+use lib.ListN.{getD}
 use Rattle.format.specs.Bytes.{byte}
 use Rattle.format.specs.Kind.{Kind, tag, isTagOf}
 use Rattle.format.specs.Tree.{leaf, ref, branch, none, pair, count, one}
@@ -111,6 +112,31 @@ TokenFits closing = Unit {0}
 abbrev pub AllFit : List Token → Type 0
 AllFit [] = Unit {0}
 AllFit (t ∷ ts) = TokenFits t × AllFit ts
+
+-- ---- tokens and nodes: each token but a closing brace is the next node
+
+-- the index of the next node behind a token, from its own on
+abbrev pub nodeBehind : (node : ℕ) → Token → ℕ
+nodeBehind i (scalar x) = suc i
+nodeBehind i (reference r) = suc i
+nodeBehind i (opening h n) = suc i
+nodeBehind i closing = i
+
+-- tokens, each changed by what the index of its node tells; a closing brace is told the next one's
+abbrev pub atNodes : (change : (node : ℕ) → Token → Token) → (node : ℕ) → List Token → List Token
+atNodes f i [] = []
+atNodes f i (t ∷ ts) = f i t ∷ atNodes f (nodeBehind i t) ts
+
+-- the tags of those that are nodes
+abbrev pub nodeTag : Token → List ℕ
+nodeTag (scalar x) = getD (writeScalar x []) 0 0 ∷ []
+nodeTag (reference r) = tag (refKind (r .kind)) ∷ []
+nodeTag (opening h n) = getD (writeContainer (h .container) []) 0 0 ∷ []
+nodeTag closing = []
+
+abbrev pub nodeTags : List Token → List ℕ
+nodeTags [] = []
+nodeTags (t ∷ ts) = nodeTag t ++ nodeTags ts
 
 -- ---- what tokens count: the nodes, the containers that they open, and those that they close
 

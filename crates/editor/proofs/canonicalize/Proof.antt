@@ -24,8 +24,10 @@ slice-aggregate-none c = search needs
 write-plan-requires : tie.Need-write-plan-requires
 write-plan-requires c κs =
     let told = c .before .before .before in
-    let plan = promised.accepted (subst (Reads _ _ _) (told .enum-told .given .1) (told .before .before .before .before .read .ensures)) in
-    ended.canonical-sound _ _ (plan .value) (plan .read)
+    let read = told .before .before .before .before in
+    let plan = promised.accepted (subst (Reads _ _ _) (told .enum-told .given .1) (read .read .ensures)) in
+    let lent = read .before .before .before .before .before .args .table .now in
+    ended.canonical-sound lent _ (plan .value) (plan .read) _
 
 same-length : tie.Need-same-length
 same-length c = search needs
@@ -47,7 +49,9 @@ returns-2 c =
     let told = c .before .before .before .before .before .before .before .before in
     let read = told .before .before .before .before in
     let plan = promised.accepted (subst (Reads _ _ _) (told .enum-told .given .1) (read .read .ensures)) in
-    c .before .before .before .before .write-plan .ensures _ _ (read .read .ensures .table) (ended.canonical-written _ _ (plan .value) (plan .read) _)
+    let lent = read .before .before .before .before .before .args .table .now in
+    c .before .before .before .before .write-plan .ensures _ _ (read .read .ensures .table)
+    (ended.canonical-written lent _ (plan .value) (plan .read) (read .read .ensures .table) _)
 
 pub canonicalize-spec : {M : Type 1} → statement M
 canonicalize-spec =

@@ -28,7 +28,7 @@ returns c =
 write-plan-requires : tie.Need-write-plan-requires
 write-plan-requires c κs =
     let known = c .before .before .before in
-    ended.insert-sound (known .before .before .before .before .locate .ensures) (known .placing .given .1)
+    ended.insert-sound (known .before .before .before .before .locate .ensures) (known .placing .given .1) _
 
 same-length-2 : tie.Need-same-length-2
 same-length-2 c = search needs

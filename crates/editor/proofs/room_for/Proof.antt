@@ -12,15 +12,15 @@ is-spared-requires c κs = search needs
 returns : tie.Need-returns
 returns c =
     let asked = c .before in
-    let start = asked .before .before .before .before .before in
-    record { answer = ended.says-enough (ended.spared-room _ _ _ _ (asked .is-spared .ensures (c .if1 .taken)) (start .pre)); same = refl }
+    let start = asked .before .before .before .before .before .before in
+    record { answer = ended.says-enough (ended.spared-room _ (start .args .table .now) _ _ _ (asked .is-spared .ensures (c .if1 .taken)) (start .pre)); same = refl }
 
 slice-relend-prefix-write : tie.Need-slice-relend-prefix-write
 slice-relend-prefix-write c = search needs
 
 slice-aggregate-write : tie.Need-slice-aggregate-write
 slice-aggregate-write c =
-    let start = c .before .before .before .before .before .before .before in
+    let start = c .before .before .before .before .before .before .before .before in
     sym (length-take-le _ (start .args .out .now) (slice-relend-prefix-write (c .before)))
 
 write-requires : tie.Need-write-requires
@@ -35,7 +35,7 @@ same-length c = search needs
 returns-2 : tie.Need-returns-2
 returns-2 c =
     let wrote = c .before .before .before in
-    let start = wrote .before .before .before .before .before .before .before .before in
+    let start = wrote .before .before .before .before .before .before .before .before .before in
     ended.measured-roomed (start .pre) _ (wrote .write .ensures) (c .room-of .ensures)
 
 pub room-for-spec : {M : Type 1} → statement M

@@ -12,12 +12,12 @@ use Rattle.editor.proofs.write_plan.Statement.{statement}
 use Rattle.editor.proofs.write_plan.Tie as tie
 
 room-for-requires : tie.Need-room-for-requires
-room-for-requires c κs = c .before .before .before .before .before .before .pre
+room-for-requires c κs = c .before .before .before .before .before .before .before .pre
 
 -- what is to write
 module _ (c : tie.Start) where
   abbrev text : List ℕ
-  text = editedText (c .args .source .now) (c .args .edit) (c .args .key .now) (c .args .value .now)
+  text = editedText (c .args .source .now) (c .args .table .now) (c .args .edit) (c .args .key .now) (c .args .value .now)
 
 enum-told : tie.Need-enum-told
 enum-told c = search needs
@@ -38,7 +38,7 @@ returns : tie.Need-returns
 returns c = λ before bytes t f.
     let none = c .before .before .before .before in
     let asked = none .before .before .before .before in
-    let start = asked .before .before .before .before .before .before .before in
+    let start = asked .before .before .before .before .before .before .before .before in
     let room = asked .room-for .ensures in
     ended.writes-on (room .same)
     (ended.writes-14 _ _ _ (text start) f t (ended.room-missing room (none .enum-told2 .given .1)) (c .before .before .refuse .ensures))
@@ -64,13 +64,13 @@ same-length-4 c = search needs
 -- where there is room the text is written
 module _ (c : tie.After-write) where
   abbrev told : tie.After-enum-told
-  told = c .before .before
+  told = c .before .before .before
 
   abbrev asked : tie.After-room-for
   asked = told .before .before .before .before
 
   abbrev start : tie.Start
-  start = asked .before .before .before .before .before .before .before
+  start = asked .before .before .before .before .before .before .before .before
 
 returns-2 : tie.Need-returns-2
 returns-2 c = λ before bytes t f.

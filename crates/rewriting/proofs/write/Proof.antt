@@ -12,7 +12,7 @@ use Rattle.rewriting.proofs.write.Tie as tie
 -- the edit is one that is written
 module _ (c : tie.Else1) where
   abbrev start : tie.Start
-  start = c .before .before .before .before .before .before
+  start = c .before .before .before .before .before .before .before
 
   fit : writable (length (start .args .source .now)) (start .args .edit) (length (start .args .key .now)) (length (start .args .value .now)) ≡ true
   fit = sym (c .before .can-write .ensures) ∙ not-false _ (c .if1 .left)
@@ -21,18 +21,18 @@ module _ (c : tie.Else1) where
 returns-2 : tie.Need-returns-2
 returns-2 c =
     let told = c .before .before .before .before in
-    editable.puts-edited _ _ _ _ (fit (told .before .before)) (editable.as-canonical _ _ _ (told .enum-told .given .1)) (c .before .before .rewrite .ensures)
+    editable.puts-edited _ _ _ _ _ (fit (told .before .before)) (editable.as-canonical _ _ _ _ (told .enum-told .given .1)) (c .before .before .rewrite .ensures)
 
 returns-3 : tie.Need-returns-3
 returns-3 c =
     let known = c .before .before .before .before .before in
-    editable.puts-edited _ _ _ _ (fit (known .before .before)) (editable.as-splice _ _ _ (known .edit .given .1)) (c .before .before .write-spliced .ensures)
+    editable.puts-edited _ _ _ _ _ (fit (known .before .before)) (editable.as-splice _ _ _ _ (known .edit .given .1)) (c .before .before .write-spliced .ensures)
 
 can-write-requires : tie.Need-can-write-requires
 can-write-requires c κs = search needs
 
 returns : tie.Need-returns
-returns c = editable.leaves-unfit _ _ _ _ (sym (c .before .can-write .ensures) ∙ not-true _ (c .if1 .taken))
+returns c = editable.leaves-unfit _ _ _ _ _ (sym (c .before .can-write .ensures) ∙ not-true _ (c .if1 .taken))
 
 enum-told : tie.Need-enum-told
 enum-told c = search needs
@@ -40,7 +40,7 @@ enum-told c = search needs
 rewrite-requires : tie.Need-rewrite-requires
 rewrite-requires c κs =
     let args = start (c .before .before .before) .args in
-    editable.canonical-room _ (args .edit) (args .key .now) (args .value .now) (fit (c .before .before .before))
+    editable.canonical-room _ (args .table .now) (args .edit) (args .key .now) (args .value .now) (fit (c .before .before .before))
 
 enum-known-edit : tie.Need-enum-known-edit
 enum-known-edit c = search needs

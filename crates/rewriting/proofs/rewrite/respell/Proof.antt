@@ -13,7 +13,7 @@ returns-2 c =
     let known = c .before .before .before .before .before .before .before .before in
     let pre = known .before .before .before .before .pre in
     let changes = pre .3 .moves _ (known .change .given .1) in
-    puts-as (spelled.as-renumbered _ _ _ (known .change .given .1) ∙ spelled.spelled-moved _ _ _ _ (changes .0) (changes .1))
+    puts-as (spelled.as-renumbered _ _ _ _ (known .change .given .1) ∙ spelled.spelled-moved _ _ _ _ (changes .0) (changes .1))
     (c .before .before .numbered .ensures)
 
 enum-told : tie.Need-enum-told
@@ -22,7 +22,7 @@ enum-told c = search needs
 shortest-requires : tie.Need-shortest-requires
 shortest-requires c κs =
     let pre = c .before .before .before .before .before .pre in
-    (pre .1, within-as (spelled.as-canonical _ _ _ (c .before .enum-told .given .1)) (pre .4))
+    (pre .1, within-as (spelled.as-canonical _ _ _ _ (c .before .enum-told .given .1)) (pre .4))
 
 enum-known-change : tie.Need-enum-known-change
 enum-known-change c = search needs
@@ -54,14 +54,14 @@ numbered-requires c κs =
       omega (arith, pre .1 .inside, spelled.more-of (pre .1) (changes .0)),
       omega arith,
       pre .1 .inside,
-      within-as (spelled.as-renumbered _ _ _ moving ∙ spelled.spelled-moved _ _ _ _ (changes .0) (changes .1)) (pre .4),
+      within-as (spelled.as-renumbered _ _ _ _ moving ∙ spelled.spelled-moved _ _ _ _ (changes .0) (changes .1)) (pre .4),
     )
 
 same-length : tie.Need-same-length
 same-length c = search needs
 
 returns : tie.Need-returns
-returns c = puts-as (spelled.as-canonical _ _ _ (c .before .before .before .before .enum-told .given .1)) (c .before .before .shortest .ensures)
+returns c = puts-as (spelled.as-canonical _ _ _ _ (c .before .before .before .before .enum-told .given .1)) (c .before .before .shortest .ensures)
 
 same-length-2 : tie.Need-same-length-2
 same-length-2 c = search needs

@@ -13,36 +13,37 @@ returns c =
     let upto = keyed .before .before .before .before in
     let counted = upto .before .before .before .before in
     let front = counted .before .before .before .before in
-    let spliceable = front .before .before .before .before .before .before .before .pre in
-    texts.all-put spliceable (front .rewrite .ensures) (counted .numbered .ensures) (upto .rewrite2 .ensures) (keyed .copy .ensures)
+    let start = front .before .before .before .before .before .before .before .before in
+    texts.all-put (start .pre) (start .args .table .now) (front .rewrite .ensures) (counted .numbered .ensures) (upto .rewrite2 .ensures) (keyed .copy .ensures)
     (valued .copy2 .ensures) (c .before .before .rewrite3 .ensures)
 
 rewrite-requires : tie.Need-rewrite-requires
-rewrite-requires c κs = texts.front-within (c .before .before .before .before .before .before .pre)
+rewrite-requires c κs = let start = c .before .before .before .before .before .before .before in texts.front-within (start .pre) (start .args .table .now)
 
 sub-numbered : tie.Need-sub-numbered
-sub-numbered c = omega (arith, texts.room (c .before .before .before .before .before .before .before .before .before .pre) .some)
+sub-numbered c = omega (arith, texts.room (c .before .before .before .before .before .before .before .before .before .before .pre) .some)
 
 numbered-requires : tie.Need-numbered-requires
 numbered-requires c κs =
     let front = c .before .before .before in
-    let spliceable = front .before .before .before .before .before .before .before .pre in
-    let room = texts.room spliceable in
-    (omega (arith, room .some, room .long, room .inside), omega arith, room .inside, texts.head-within spliceable (front .rewrite .ensures))
+    let start = front .before .before .before .before .before .before .before .before in
+    let room = texts.room (start .pre) in
+    (omega (arith, room .some, room .long, room .inside), omega arith, room .inside, texts.head-within (start .pre) (start .args .table .now) (front .rewrite .ensures))
 
 rewrite-requires-2 : tie.Need-rewrite-requires-2
 rewrite-requires-2 c κs =
     let counted = c .before .before .before in
     let front = counted .before .before .before .before in
-    texts.middle-within (front .before .before .before .before .before .before .before .pre) (front .rewrite .ensures) (counted .numbered .ensures)
+    let start = front .before .before .before .before .before .before .before .before in
+    texts.middle-within (start .pre) (start .args .table .now) (front .rewrite .ensures) (counted .numbered .ensures)
 
 copy-requires : tie.Need-copy-requires
 copy-requires c κs =
     let upto = c .before .before .before in
     let counted = upto .before .before .before .before in
     let front = counted .before .before .before .before in
-    let spliceable = front .before .before .before .before .before .before .before .pre in
-    (omega arith, omega arith, texts.key-within spliceable (front .rewrite .ensures) (counted .numbered .ensures) (upto .rewrite2 .ensures))
+    let start = front .before .before .before .before .before .before .before .before in
+    (omega arith, omega arith, texts.key-within (start .pre) (start .args .table .now) (front .rewrite .ensures) (counted .numbered .ensures) (upto .rewrite2 .ensures))
 
 copy-requires-2 : tie.Need-copy-requires-2
 copy-requires-2 c κs =
@@ -50,10 +51,10 @@ copy-requires-2 c κs =
     let upto = keyed .before .before .before .before in
     let counted = upto .before .before .before .before in
     let front = counted .before .before .before .before in
-    let spliceable = front .before .before .before .before .before .before .before .pre in (
+    let start = front .before .before .before .before .before .before .before .before in (
       omega arith,
       omega arith,
-      texts.value-within spliceable (front .rewrite .ensures) (counted .numbered .ensures) (upto .rewrite2 .ensures) (keyed .copy .ensures),
+      texts.value-within (start .pre) (start .args .table .now) (front .rewrite .ensures) (counted .numbered .ensures) (upto .rewrite2 .ensures) (keyed .copy .ensures),
     )
 
 rewrite-requires-3 : tie.Need-rewrite-requires-3
@@ -63,8 +64,8 @@ rewrite-requires-3 c κs =
     let upto = keyed .before .before .before .before in
     let counted = upto .before .before .before .before in
     let front = counted .before .before .before .before in
-    let spliceable = front .before .before .before .before .before .before .before .pre in
-    texts.back-within spliceable (front .rewrite .ensures) (counted .numbered .ensures) (upto .rewrite2 .ensures) (keyed .copy .ensures)
+    let start = front .before .before .before .before .before .before .before .before in
+    texts.back-within (start .pre) (start .args .table .now) (front .rewrite .ensures) (counted .numbered .ensures) (upto .rewrite2 .ensures) (keyed .copy .ensures)
     (valued .copy2 .ensures)
 
 same-length : tie.Need-same-length

@@ -6,8 +6,8 @@ use Rattle.rewriting.proofs.Staying as staying
 use Rattle.rewriting.proofs.stretch.stays.Statement.{statement}
 use Rattle.rewriting.proofs.stretch.stays.Tie as tie
 
-shared-slice-read-tag : tie.Need-shared-slice-read-tag
-shared-slice-read-tag c = search needs
+shared-slice-read-letter : tie.Need-shared-slice-read-letter
+shared-slice-read-letter c = search needs
 
 enum-told : tie.Need-enum-told
 enum-told c = search needs
@@ -39,40 +39,40 @@ enum-known-change c = search needs
 returns : tie.Need-returns
 returns c =
     let matched = c .before .before in
-    staying.reference-stays _ _ _ (matched .before .before .change .given .1) (matched .match3 .keys1) (spelled.unmoved _ _ (c .if1 .taken))
+    staying.reference-stays _ _ _ _ (matched .before .before .change .given .1) (matched .match3 .keys1) (spelled.unmoved _ _ (c .if1 .taken))
 
 returns-2 : tie.Need-returns-2
 returns-2 c =
     let moving = c .before .before in
     let matched = moving .before .before in
-    staying.reference-changes _ _ _ (matched .before .before .change .given .1) (matched .match3 .keys1)
+    staying.reference-changes _ _ _ _ (matched .before .before .change .given .1) (matched .match3 .keys1)
     (spelled.moved _ _ (moving .if1 .left) (c .if2 .taken))
 
 returns-3 : tie.Need-returns-3
-returns-3 c = staying.unnumbered-stays _ _ _ (c .before .enum-told .given .1) (c .match2 .keys1)
+returns-3 c = staying.unnumbered-stays _ _ _ _ (c .before .enum-told .given .1) (c .match2 .keys1)
 
 returns-4 : tie.Need-returns-4
-returns-4 c = staying.object-changes _ _ _ (c .before .enum-told .given .1)
+returns-4 c = staying.object-changes _ _ _ _ (c .before .enum-told .given .1)
 
 returns-5 : tie.Need-returns-5
 returns-5 c =
     let matched = c .before .before .before in
     let start = matched .before .before .before .before .before in
-    staying.number-stays _ _ _ (start .pre) (matched .before .enum-told .given .1) (matched .match2 .rest .1) _ (c .is-shortest .ensures)
+    staying.number-stays _ _ _ _ (start .pre) (matched .before .enum-told .given .1) (matched .match2 .rest .1) _ (c .is-shortest .ensures)
 
 returns-6 : tie.Need-returns-6
 returns-6 c =
     let matched = c .before .before .before .before in
-    staying.reference-stays _ _ _ (matched .before .before .change .given .1) (matched .match3 .keys1) (spelled.before _ _ (omega (arith, c .if2 .left)))
+    staying.reference-stays _ _ _ _ (matched .before .before .change .given .1) (matched .match3 .keys1) (spelled.before _ _ (omega (arith, c .if2 .left)))
 
 returns-7 : tie.Need-returns-7
-returns-7 c = staying.other-stays _ _ _ (c .before .before .change .given .1) (c .match3 .rest .1)
+returns-7 c = staying.other-stays _ _ _ _ (c .before .before .change .given .1) (c .match3 .rest .1)
 
 pub stays-spec : {M : Type 1} → statement M
 stays-spec =
     tie.close
     (tie.spec
-    shared-slice-read-tag
+    shared-slice-read-letter
     enum-told
     add-is-shortest
     shared-slice-read-is-shortest
