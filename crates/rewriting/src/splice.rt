@@ -63,30 +63,14 @@ pub(crate) fn write_spliced(
 {
     let at = splice.at;
     let inside = splice.inside;
+    let from = splice.from;
+    let to = splice.to;
     let renumbering = splice.renumbering;
     let renumber = Change::Renumber(renumbering);
     let before = rewrite(source, table, 0, at, 0, renumber, out, 0);
     let counted = numbered(source, at, splice.count, inside - 2, inside, out, before);
-    let upto = rewrite(
-        source,
-        table,
-        inside,
-        splice.from,
-        0,
-        renumber,
-        out,
-        counted,
-    );
+    let upto = rewrite(source, table, inside, from, 0, renumber, out, counted);
     let keyed = copy(key, 0, key.len(), out, upto);
     let valued = copy(value, 0, value.len(), out, keyed);
-    rewrite(
-        source,
-        table,
-        splice.to,
-        source.len(),
-        0,
-        renumber,
-        out,
-        valued,
-    )
+    rewrite(source, table, to, source.len(), 0, renumber, out, valued)
 }

@@ -46,7 +46,7 @@ returns-2 c =
     let moving = c .before .before in
     let matched = moving .before .before in
     staying.reference-changes _ _ _ _ (matched .before .before .change .given .1) (matched .match3 .keys1)
-    (spelled.moved _ _ (moving .if1 .left) (c .if2 .taken))
+    (spelled.moved _ _ (moving .if1 .left) (omega (arith, c .if2 .taken)))
 
 returns-3 : tie.Need-returns-3
 returns-3 c = staying.unnumbered-stays _ _ _ _ (c .before .enum-told .given .1) (c .match2 .keys1)
