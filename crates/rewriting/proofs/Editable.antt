@@ -18,7 +18,7 @@ use Rattle.rewriting.specs.declared.rewrite.Change.{Change}
 use Rattle.rewriting.specs.declared.splice.Renumbering.{Renumbering}
 use Rattle.rewriting.specs.declared.splice.Splice.{Splice}
 use Rattle.rewriting.specs.Output.{Within, Puts}
-use Rattle.rewriting.specs.Rewriting.{Sound}
+use Rattle.rewriting.specs.Rewriting.{ChangeFits}
 use Rattle.rewriting.specs.Edited.{canonicalText, splicedText, editedText, stands, editStands, writable, editedAnswer, editedBytes}
 use Rattle.rewriting.specs.Edited.{lengthEdited, outputEdited, Edits, Spliceable, Parted}
 use Rattle.rewriting.proofs.Outputs.{puts-as}
@@ -91,7 +91,7 @@ module _ (s : List ℕ) (e : Edit) (key value : List ℕ) (f : writable (length 
       spliceable s key value p (sym (inside-splice (length s) e (length key) (length value) i) ∙ z .standing) (z .source) (z .key) (z .value)
 
 module _ (s t : List ℕ) (e : Edit) (key value : List ℕ) (f : writable (length s) e (length key) (length value) ≡ true) where
-  pub canonical-room : (0 ≤ 0) × Sound Change.Canonical × Within (canonicalText t s) 0
+  pub canonical-room : (0 ≤ 0) × ChangeFits Change.Canonical × Within (canonicalText t s) 0
   canonical-room = (omega arith, record { numbers = λ m i. absurd (never i) }, canonical-within t s (sizes (length s) e (length key) (length value) f .source))
     where
       never : {m : Renumbering} → Change.Canonical ≡ Change.Renumber m → ⊥

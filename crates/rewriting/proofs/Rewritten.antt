@@ -25,7 +25,7 @@ use Rattle.rewriting.specs.declared.rewrite.Change.{Change}
 use Rattle.rewriting.specs.declared.stretch.Stop.{Stop}
 use Rattle.rewriting.specs.Output.{Within, Puts}
 use Rattle.rewriting.specs.Shortest.{Bounds}
-use Rattle.rewriting.specs.Rewriting.{Sound, Named, respelledText, changedToken, changedText, rewrittenText}
+use Rattle.rewriting.specs.Rewriting.{ChangeFits, Named, respelledText, changedToken, changedText, rewrittenText}
 use Rattle.rewriting.specs.Stretches.{Changes, Stays, Passes, nodeNext, Keeps, Halts, Ends, Stops, halted, ended}
 use Rattle.rewriting.proofs.Outputs.{within-as, puts-as, Owes, owes-all, owes-none, owes-within, owes-more, slice-join}
 use Rattle.rewriting.proofs.Respelled.{changed-is, bounds, first-of, named}
@@ -193,8 +193,8 @@ module _ {t s : List ℕ} {first from to : ℕ} {c : Change} {w₀ : ℕ} {out�
       more : rewrittenText c t node s at to ≡ respelledText c g s at x ++ rewrittenText c t (nodeNext s at node) s (x .next) to
       more = rewritten-more c t s at to node x (h .before) (h .found)
 
-      pub token-bounds : {tag : ℕ} → tag ≡ wordAt t node tagWord → Sound c → Within (rewrittenText c t first s from to) w₀
-          → Sound c × Bounds s at x × Named s at x × Changes c s at x × Within (respelledText c tag s at x) e
+      pub token-bounds : {tag : ℕ} → tag ≡ wordAt t node tagWord → ChangeFits c → Within (rewrittenText c t first s from to) w₀
+          → ChangeFits c × Bounds s at x × Named s at x × Changes c s at x × Within (respelledText c tag s at x) e
       token-bounds i sound a =
           let st : Stands s at (h .found .what) x = found-stands s at x (h .found) in (
             sound,

@@ -14,7 +14,7 @@ use Rattle.rewriting.specs.declared.rewrite.Change.{Change}
 use Rattle.rewriting.specs.declared.splice.Renumbering.{Renumbering}
 use Rattle.rewriting.specs.declared.splice.Splice.{Splice}
 use Rattle.rewriting.specs.Output.{Within, Puts}
-use Rattle.rewriting.specs.Rewriting.{Sound, rewrittenText, renumberedBetween}
+use Rattle.rewriting.specs.Rewriting.{ChangeFits, rewrittenText, renumberedBetween}
 use Rattle.rewriting.specs.Edited.{splicedHead, splicedText, stands, Spliceable}
 use Rattle.rewriting.proofs.Anywhere.{renumbered-anywhere}
 use Rattle.rewriting.proofs.Outputs.{puts-then, puts-as, within-as, within-first, within-then, slice-of}
@@ -77,8 +77,8 @@ room-of n p e =
       down = leb→le (p .renumbering .down) (p .renumbering .from) (and-right f g behind-d);
     }
 
-pub sound-of : {n : ℕ} {p : Splice} → Room n p → Sound (Change.Renumber (p .renumbering))
-sound-of {p = p} r = record { numbers = λ m e. subst (λ (u : Renumbering). (u .up ≤ numberLimit) × (u .down ≤ u .from)) (same e) (r .up, r .down) }
+pub change-fits : {n : ℕ} {p : Splice} → Room n p → ChangeFits (Change.Renumber (p .renumbering))
+change-fits {p = p} r = record { numbers = λ m e. subst (λ (u : Renumbering). (u .up ≤ numberLimit) × (u .down ≤ u .from)) (same e) (r .up, r .down) }
   where
     same : {m u : Renumbering} → Change.Renumber m ≡ Change.Renumber u → m ≡ u
     same e = cc
@@ -100,15 +100,15 @@ module _ {s key value : List ℕ} {p : Splice} (a : Spliceable s key value p) wh
   between = renumberedBetween (p .renumbering) s
 
   -- with room for it, it can be written
-  writes : (t : List ℕ) (from to w : ℕ) → Within (between from to) w → (0 ≤ from) × Sound c × Within (rewrittenText c t 0 s from to) w
-  writes t from to w h = (omega arith, sound-of room, within-as (sym (renumbered-anywhere (p .renumbering) t 0 s from to)) h)
+  writes : (t : List ℕ) (from to w : ℕ) → Within (between from to) w → (0 ≤ from) × ChangeFits c × Within (rewrittenText c t 0 s from to) w
+  writes t from to w h = (omega arith, change-fits room, within-as (sym (renumbered-anywhere (p .renumbering) t 0 s from to)) h)
 
   wrote : (t : List ℕ) (from to : ℕ) {w : ℕ} {out : List ℕ} {e : ℕ} {out′ : List ℕ} → Puts (rewrittenText c t 0 s from to) w out e out′
       → Puts (between from to) w out e out′
   wrote t from to q = puts-as (sym (renumbered-anywhere (p .renumbering) t 0 s from to)) q
 
 module _ {s key value : List ℕ} {p : Splice} (a : Spliceable s key value p) (t : List ℕ) where
-  pub front-within : (0 ≤ 0) × Sound (c a) × Within (rewrittenText (c a) t 0 s 0 (p .at)) 0
+  pub front-within : (0 ≤ 0) × ChangeFits (c a) × Within (rewrittenText (c a) t 0 s 0 (p .at)) 0
   front-within = writes a t 0 (p .at) 0 (within-first _ _ _ (a .within))
 
   module _ {out out₁ : List ℕ} {r₁ : ℕ} (p₁ : Puts (rewrittenText (c a) t 0 s 0 (p .at)) 0 out r₁ out₁) where
@@ -122,7 +122,7 @@ module _ {s key value : List ℕ} {p : Splice} (a : Spliceable s key value p) (t
       w₂ : Within (between a (p .inside) (p .from) ++ (key ++ (value ++ between a (p .to) (length s)))) r₂
       w₂ = within-then w₁ p₂
 
-      pub middle-within : (0 ≤ p .inside) × Sound (c a) × Within (rewrittenText (c a) t 0 s (p .inside) (p .from)) r₂
+      pub middle-within : (0 ≤ p .inside) × ChangeFits (c a) × Within (rewrittenText (c a) t 0 s (p .inside) (p .from)) r₂
       middle-within = writes a t (p .inside) (p .from) r₂ (within-first _ _ _ w₂)
 
       module _ {out₃ : List ℕ} {r₃ : ℕ} (p₃ : Puts (rewrittenText (c a) t 0 s (p .inside) (p .from)) r₂ out₂ r₃ out₃) where
@@ -140,7 +140,7 @@ module _ {s key value : List ℕ} {p : Splice} (a : Spliceable s key value p) (t
           value-within = within-as (sym (all-of value)) (within-first _ _ _ w₄)
 
           module _ {out₅ : List ℕ} {r₅ : ℕ} (p₅ : Puts (slice 0 (length value) value) r₄ out₄ r₅ out₅) where
-            pub back-within : (0 ≤ p .to) × Sound (c a) × Within (rewrittenText (c a) t 0 s (p .to) (length s)) r₅
+            pub back-within : (0 ≤ p .to) × ChangeFits (c a) × Within (rewrittenText (c a) t 0 s (p .to) (length s)) r₅
             back-within = writes a t (p .to) (length s) r₅ (within-then w₄ (puts-as (sym (all-of value)) p₅))
 
             pub all-put : {out₆ : List ℕ} {r₆ : ℕ} → Puts (rewrittenText (c a) t 0 s (p .to) (length s)) r₅ out₅ r₆ out₆

@@ -19,7 +19,7 @@ use Rattle.tokens.specs.Tokens.{Token, scalar, reference, opening, closing, Ref
 use Rattle.tokens.specs.Between.{tokensBetween}
 
 -- no number falls below zero, and none overflows
-pub record Sound (c : Change) : Type 0 where
+pub record ChangeFits (c : Change) : Type 0 where
   pub numbers : (m : Renumbering) → c ≡ Change.Renumber m → (m .up ≤ numberLimit) × (m .down ≤ m .from)
 
 -- ---- one token, by what its text tells

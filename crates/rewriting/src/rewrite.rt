@@ -13,7 +13,7 @@ use tables::tag_at;
 ghost use Prim.Native.Nat.{_≤_};
 ghost use Rattle.rewriting.specs.Output.{Within, Puts};
 ghost use Rattle.rewriting.specs.Shortest.{Bounds};
-ghost use Rattle.rewriting.specs.Rewriting.{Sound, Named, respelledText, rewrittenText};
+ghost use Rattle.rewriting.specs.Rewriting.{ChangeFits, Named, respelledText, rewrittenText};
 ghost use Rattle.rewriting.specs.Stretches.{Changes};
 
 // What becomes of a token: it is written in canonical spelling; or a reference that moves names another ordinal, in shortest form, and all else is copied.
@@ -32,7 +32,7 @@ fn respell(
     out: &mut [u8],
     w: usize,
 ) -> usize
-    requires { ⌜ Sound change × Bounds (now source) at text × Named (now source) at text × Changes change (now source) at text
+    requires { ⌜ ChangeFits change × Bounds (now source) at text × Named (now source) at text × Changes change (now source) at text
         × Within (respelledText change tag (now source) at text) w ⌝ }
     ensures { λ r. ⌜ Puts (respelledText change tag (now (source .entry)) at text) w (now (out .entry)) r (now (out .exit)) ⌝ }
 {
@@ -58,7 +58,7 @@ pub(crate) fn rewrite(
     out: &mut [u8],
     w: usize,
 ) -> usize
-    requires { ⌜ (first ≤ from) × Sound change × Within (rewrittenText change (now table) first (now source) from to) w ⌝ }
+    requires { ⌜ (first ≤ from) × ChangeFits change × Within (rewrittenText change (now table) first (now source) from to) w ⌝ }
     ensures { λ r. ⌜ Puts (rewrittenText change (now (table .entry)) first (now (source .entry)) from to) w (now (out .entry)) r (now (out .exit)) ⌝ }
 {
     if source.len() < from {
