@@ -16,7 +16,7 @@ use Rattle.format.specs.Syntax.{Spelling, Key, Scalar, Container, Head, 
 use Rattle.format.specs.Keys.{hasKey}
 use Rattle.format.specs.Limits.{sourceLimit, depthLimit, Terms, Seen, unseen, seeBranch, see}
 use Rattle.format.specs.Fits.{Backward, BackwardIn, Shallow, ShallowIn}
-use Rattle.format.specs.Answer.{ok, _>>=_, require}
+use Rattle.format.specs.Answer.{Answer, ok, refused, _>>=_, require}
 use Rattle.format.specs.Read.{Form, Setting, settingIn, position, isArray, Inner, expect, kindOf, tagOf, roomFor, readKey, readPairs}
 use Rattle.format.specs.Read.{readBranch, readReference, readScalar, readBody, readValue, readIn}
 use Rattle.format.proofs.Answers.{ok-same, not-both, bind-ok, require-ok}
@@ -95,12 +95,21 @@ pub record FitsIn (form : Form) (terms : Terms) (source : List ℕ) (v : Value) 
 abbrev pub Tagged : Form → Type 0
 Tagged form = (k : Kind) (at : ℕ) → kindOf (form .first) kinds 3 at (form .first k) ≡ ok k
 
+-- two answers of one text, its tag standing at `l` and at `m`: the same, or the same refusal, 2 to 10, at the tag
+pub data AtTag {A : Type 0} (l m : ℕ) (a b : Answer A) : Type 0 where
+  found : (x : A) → a ≡ ok x → b ≡ ok x → AtTag l m a b
+  unfit : (n : ℕ) → 2 ≤ n → n ≤ 10 → a ≡ refused n l → b ≡ refused n m → AtTag l m a b
+
+pub found-too : {A : Type 0} {l m : ℕ} {a b : Answer A} {x : A} → AtTag l m a b → a ≡ ok x → b ≡ ok x
+found-too (found y e f) h = f ∙ ap ok (ok-same (sym e ∙ h))
+found-too (unfit n lo hi e f) h = absurd (not-both (sym e ∙ h))
+
 -- what is read of a text does not depend on where its tag stands; a head is of the container that was asked for
 pub record Steady (form : Form) : Type 0 where
-  pub scalar : (k : Kind) (l : ℕ) (s : List ℕ) (q : Scalar × List ℕ) → form .scalarText k l s ≡ ok q → (m : ℕ) → form .scalarText k m s ≡ ok q
-  pub key : (a : Bool) (k : Kind) (l : ℕ) (s : List ℕ) (q : Key × List ℕ) → form .keyText a k l s ≡ ok q → (m : ℕ) → form .keyText a k m s ≡ ok q
-  pub head : (a : Bool) (l : ℕ) (s : List ℕ) (q : (Container × (Spelling × ℕ)) × List ℕ) → form .headText a l s ≡ ok q → (m : ℕ) → form .headText a m s ≡ ok q
-  pub named : (l : ℕ) (s : List ℕ) (q : (Spelling × ℕ) × List ℕ) → form .namedText l s ≡ ok q → (m : ℕ) → form .namedText m s ≡ ok q
+  pub scalar : (k : Kind) (s : List ℕ) (l m : ℕ) → AtTag l m (form .scalarText k l s) (form .scalarText k m s)
+  pub key : (a : Bool) (k : Kind) (s : List ℕ) (l m : ℕ) → AtTag l m (form .keyText a k l s) (form .keyText a k m s)
+  pub head : (a : Bool) (s : List ℕ) (l m : ℕ) → AtTag l m (form .headText a l s) (form .headText a m s)
+  pub named : (s : List ℕ) (l m : ℕ) → AtTag l m (form .namedText l s) (form .namedText m s)
   pub container : (a : Bool) (l : ℕ) (s : List ℕ) (q : (Container × (Spelling × ℕ)) × List ℕ) → form .headText a l s ≡ ok q → isArray (q .0 .0) ≡ a
 
 -- ---- every writing of a tree that fits is accepted
@@ -138,8 +147,8 @@ module _ (set : Setting) where
   one-level d ps e = let i : suc d - 1 ≡ d = omega arith in rw i at e
 
   module _ (tagged : Tagged (set .form)) where
-    found : (k : Kind) (at : ℕ) (s rest : List ℕ) → s ≡ set .form .first k ∷ rest → tagOf (set .form .first) kinds 3 at s ≡ ok (k, rest)
-    found k at s rest e = rw e (rw (tagged k at))
+    tag-found : (k : Kind) (at : ℕ) (s rest : List ℕ) → s ≡ set .form .first k ∷ rest → tagOf (set .form .first) kinds 3 at s ≡ ok (k, rest)
+    tag-found k at s rest e = rw e (rw (tagged k at))
 
     mutual
       pub value-accepted : (v : Value) (d : ℕ) (seen : Seen) (before : ℕ) (s r : List ℕ) → Writing (set .form) v s r → Fresh v → Backward seen v → Shallow d v
@@ -149,13 +158,13 @@ module _ (set : Setting) where
       value-accepted (leaf x) (suc d) seen before s r w f b h m =
           let l : ℕ = position set s in
           let room : before < set .terms .capacity = omega arith in
-          rw (found (w .kind) l s (w .rest) (w .here), lt-ltb before (set .terms .capacity) room)
+          rw (tag-found (w .kind) l s (w .rest) (w .here), lt-ltb before (set .terms .capacity) room)
           (scalar-body (readValue set d) (w .kind) (w .scalar) l seen before (w .rest) r x (w .text l))
       value-accepted (ref n) zero seen before s r w f b h m = absurd (omega arith)
       value-accepted (ref n) (suc d) seen before s r w f b h m =
           let l : ℕ = position set s in
           let room : before < set .terms .capacity = omega arith in
-          rw (found (refKind (n .kind)) l s (w .rest) (w .here), lt-ltb before (set .terms .capacity) room)
+          rw (tag-found (refKind (n .kind)) l s (w .rest) (w .here), lt-ltb before (set .terms .capacity) room)
           (ref-body (readValue set d) n (n .kind) refl l seen before (w .rest) r (b .0) (b .1) (w .text l))
       value-accepted (branch h ps) zero seen before s r w f b e m = absurd (omega arith)
       value-accepted (branch h ps) (suc d) seen before s r w f b e m =
@@ -164,7 +173,7 @@ module _ (set : Setting) where
           let room : before < set .terms .capacity = omega arith in
           let hd = w .2 in
           let ps-read = pairs-accepted ps d a [] (seeBranch seen) (suc before) (w .0) (w .1) (w .3) f b (one-level d ps (e .1)) (omega arith) in
-          rw (found (containerKind a) l s (hd .rest) (hd .here), lt-ltb before (set .terms .capacity) room)
+          rw (tag-found (containerKind a) l s (hd .rest) (hd .here), lt-ltb before (set .terms .capacity) room)
           (branch-body (readValue set d) h ps a refl l seen before (hd .rest) (w .0) (w .1) r (hd .text l) ps-read (w .4 l))
 
       pairs-accepted : (ps : Values) (d : ℕ) (a : Bool) (earlier : List Key) (seen : Seen) (before : ℕ) (s r : List ℕ) → WritingIn (set .form) a ps s r
@@ -180,14 +189,14 @@ module _ (set : Setting) where
 
 -- ---- what is accepted is a writing of a tree that fits
 
-pub expect-steady : (l m : ℕ) (ws s r : List ℕ) → expect l ws s ≡ ok r → expect m ws s ≡ ok r
-expect-steady l m [] s r e = e
-expect-steady l m (w ∷ ws) [] r e = absurd (not-both e)
-expect-steady l m (w ∷ ws) (b ∷ s) r e = go (test (eqb w b)) (λ h. expect-steady l m ws s r h)
+pub expected : (l m : ℕ) (ws s : List ℕ) → AtTag l m (expect l ws s) (expect m ws s)
+expected l m [] s = found s refl refl
+expected l m (w ∷ ws) [] = unfit 2 (omega arith) (omega arith) refl refl
+expected l m (w ∷ ws) (b ∷ s) = go (test (eqb w b)) (expected l m ws s)
   where
-    go : Test (eqb w b) → (expect l ws s ≡ ok r → expect m ws s ≡ ok r) → expect m (w ∷ ws) (b ∷ s) ≡ ok r
-    go (passed t) f = rw (t, expect) (f (rw (t, expect) at e))
-    go (failed t) f = absurd (not-both (rw (t, expect) at e))
+    go : Test (eqb w b) → AtTag l m (expect l ws s) (expect m ws s) → AtTag l m (expect l (w ∷ ws) (b ∷ s)) (expect m (w ∷ ws) (b ∷ s))
+    go (passed t) r = rw (t, expect) r
+    go (failed t) r = rw (t, expect) (unfit 2 (omega arith) (omega arith) refl refl)
 
 -- the byte that a kind was chosen by, and that the position does not choose
 record ChosenBy (first : Kind → ℕ) (ks : List Kind) (code b : ℕ) (k : Kind) : Type 0 where
@@ -265,7 +274,7 @@ module _ (set : Setting) (steady : Steady (set .form)) where
           kind = t .0 .0;
           rest = t .0 .1;
           tagged = tag-chosen (set .form .first) (keyKinds a) 4 l s (t .0) (t .1) .steady;
-          text = steady .key a (t .0 .0) l (t .0 .1) (c .0) (c .1);
+          text = λ m. found-too (steady .key a (t .0 .0) (t .0 .1) l m) (c .1);
         };
         fresh = require-ok (not (hasKey (c .0 .0) earlier)) 9 l (d .0) (d .1);
         small = ltb→lt before (set .terms .capacity) (require-ok (ltb before (set .terms .capacity)) 7 l (b .0) (b .1));
@@ -322,10 +331,10 @@ module _ (set : Setting) (steady : Steady (set .form)) where
             record {
               rest = s;
               here = h ∙ ap (λ (b : Bool). set .form .first (containerKind b) ∷ s) (sym same);
-              text = head-as c (hd .0 .0 .1 .0) n (count (ps .0 .0)) a s (hd .0 .1) same counted (steady .head a l s (hd .0) (hd .1));
+              text = head-as c (hd .0 .0 .1 .0) n (count (ps .0 .0)) a s (hd .0 .1) same counted (λ m′. found-too (steady .head a s l m′) (hd .1));
             },
             gp .written,
-            λ m′. expect-steady l m′ (set .form .close) (ps .0 .1) (cl .0) (cl .1),
+            λ m′. found-too (expected l m′ (set .form .close) (ps .0 .1)) (cl .1),
           );
           fresh = gp .fresh;
           backward = gp .backward;
@@ -342,7 +351,7 @@ module _ (set : Setting) (steady : Steady (set .form)) where
         let b = bind-ok (require (ltb 0 t && leb t seen) 6 l) _ q (a .2) in
         let r = require-ok (ltb 0 t && leb t seen) 6 l (b .0) (b .1) in
         subst (Got (suc d) seen before s₀) (ok-same (b .2)) (record {
-          written = record { rest = s; here = h; text = steady .named l s (a .0) (a .1) };
+          written = record { rest = s; here = h; text = λ m′. found-too (steady .named s l m′) (a .1) };
           fresh = tt;
           backward = (ltb→lt 0 t (and-left (ltb 0 t) (leb t seen) r), leb→le t seen (and-right (ltb 0 t) (leb t seen) r));
           shallow = omega arith;
@@ -355,7 +364,7 @@ module _ (set : Setting) (steady : Steady (set .form)) where
     scalar-got k i l seen before s s₀ q m h e =
         let a = bind-ok (set .form .scalarText k l s) _ q e in
         subst (Got (suc d) seen before s₀) (ok-same (a .2)) (record {
-          written = record { kind = k; scalar = i; rest = s; here = h; text = steady .scalar k l s (a .0) (a .1) };
+          written = record { kind = k; scalar = i; rest = s; here = h; text = λ m′. found-too (steady .scalar k s l m′) (a .1) };
           fresh = tt;
           backward = tt;
           shallow = omega arith;

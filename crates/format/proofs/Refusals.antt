@@ -1,24 +1,24 @@
 -- What a refusal of reading may be: a number of paper 01's table, and a position in the plan or at its end. Assumes nothing.
 use mathlib.Core.Path.{_≡_, refl, subst}
 use mathlib.Core.List.{List, [], _∷_}
-use mathlib.Core.Bool.{Bool, true, false, _&&_, _||_, not}
+use mathlib.Core.Bool.{Bool, true, false, _&&_, not}
 use Prim.Native.Nat.{ℕ, zero, suc, _+_, _≤_, _<_}
 use native.Mathlib.Omega.{arith}
 use lib.Dec.{ltb, leb, eqb}
-use lib.ListN.{length, take, drop}
-use Rattle.decimal.specs.Digits.{digitsOf, value}
+use lib.ListN.{length}
 use Rattle.decimal.proofs.Decide.{Test, passed, failed, test}
-use Rattle.format.specs.Bytes.{byte, bytes, isEmpty, sameBytes}
-use Rattle.format.specs.Kind.{Kind, kinds, tag, keyKinds}
+use Rattle.format.specs.Bytes.{isEmpty}
+use Rattle.format.specs.Kind.{Kind, kinds, keyKinds}
 use Rattle.format.specs.Tree.{nodes}
 use Rattle.format.specs.Syntax.{Key, RefKind, objectRef, variableRef}
 use Rattle.format.specs.Keys.{hasKey}
-use Rattle.format.specs.Limits.{numberLimit, sourceLimit, depthLimit, integerLimit, Terms, signOf, isFloat, Seen, unseen, seeBranch, see}
+use Rattle.format.specs.Limits.{sourceLimit, depthLimit, Terms, Seen, unseen, seeBranch, see}
 use Rattle.format.specs.Answer.{Answer, ok, refused, _>>=_, require}
 use Rattle.format.specs.Reading.{RefusalRow}
-use Rattle.format.specs.Read.{expect, until, digits, number, boolText, intText, floatText, quotedText, scalarText, countText, headText, namedText}
-use Rattle.format.specs.Read.{keyText, Form, planForm, kindOf, tagOf, Setting, settingIn, position, isArray, Inner, readKey, readPairs, readBranch}
+use Rattle.format.specs.Read.{expect, Form, planForm, kindOf, tagOf, Setting, settingIn, position, isArray, Inner, readKey, readPairs, readBranch}
 use Rattle.format.specs.Read.{readReference, readScalar, readBody, readValue, readIn, read}
+use Rattle.format.proofs.Forms.{AtTag, found, unfit, Steady, expected}
+use Rattle.format.proofs.PlanForm.{plan-steady}
 
 module _ (size : ℕ) where
   abbrev pub Proper : {A : Type 0} → Answer A → Type 0
@@ -41,18 +41,6 @@ module _ (size : ℕ) where
     row : (n : ℕ) → 2 ≤ n → n ≤ 10 → RefusalRow size n l
     row n a b = record { least = omega arith; most = b; start = λ e. omega arith; inside = omega arith; byte = λ e. h }
 
-    expected : (ws s : List ℕ) → Proper (expect l ws s)
-    expected [] s = tt
-    expected (w ∷ ws) [] = two l (omega arith)
-    expected (w ∷ ws) (b ∷ s) = go (test (eqb w b)) (expected ws s)
-      where
-        go : Test (eqb w b) → Proper (expect l ws s) → Proper (expect l (w ∷ ws) (b ∷ s))
-        go (passed t) r = rw (t, expect) r
-        go (failed t) r = rw (t, expect) (two l (omega arith))
-
-    next : {B : Type 0} (ws s : List ℕ) (f : List ℕ → Answer B) → ((x : List ℕ) → Proper (f x)) → Proper (expect l ws s >>= f)
-    next ws s f g = bind (expect l ws s) f (expected ws s) g
-
     tagged : (first : Kind → ℕ) (ks : List Kind) (n b : ℕ) → 2 ≤ n → n ≤ 10 → Proper (kindOf first ks n l b)
     tagged first [] n b lo hi = row n lo hi
     tagged first (j ∷ js) n b lo hi = go (test (eqb (first j) b)) (tagged first js n b lo hi)
@@ -61,94 +49,13 @@ module _ (size : ℕ) where
         go (passed t) r = rw (t, kindOf) tt
         go (failed t) r = rw (t, kindOf) r
 
-    digits-proper : (top : ℕ) (s : List ℕ) → Proper (digits l top s)
-    unfolding digits
-    digits-proper top s =
-        ask (ltb 0 (length (digitsOf s))) 2 l _ (row 2 (omega arith) (omega arith)) (λ a.
-        ask (leb (value (digitsOf s)) top) 5 l _ (row 5 (omega arith) (omega arith)) (λ b. tt))
-
-    number-proper : (s : List ℕ) → Proper (number l s)
-    unfolding number
-    number-proper s = bind (digits l numberLimit s) _ (digits-proper numberLimit s) (λ a. tt)
-
-    int-proper : (s : List ℕ) → Proper (intText l s)
-    unfolding intText
-    int-proper s =
-        next (bytes ":") s _ (λ a.
-        bind (digits l (integerLimit (signOf a .0)) (signOf a .1)) _ (digits-proper (integerLimit (signOf a .0)) (signOf a .1)) (λ b.
-        next (bytes ";") (b .1) _ (λ c. tt)))
-
-    quoted-proper : (close s : List ℕ) → Proper (quotedText l close s)
-    unfolding quotedText
-    quoted-proper close s =
-        next (bytes ":") s _ (λ a.
-        bind (number l a) _ (number-proper a) (λ b.
-        next (bytes ":\"") (b .1) _ (λ c.
-        ask (leb (b .0 .1) (length c)) 2 l _ (row 2 (omega arith) (omega arith)) (λ d.
-        next close (drop (b .0 .1) c) _ (λ e. tt)))))
-
-    bool-proper : (s : List ℕ) → Proper (boolText l s)
-    unfolding boolText
-    bool-proper s =
-        next (bytes ":") s _ (λ a.
-        ask (sameBytes (take 1 a) (bytes "0") || sameBytes (take 1 a) (bytes "1")) 2 l _ (row 2 (omega arith) (omega arith)) (λ b.
-        next (bytes ";") (drop 1 a) _ (λ c. tt)))
-
-    float-proper : (s : List ℕ) → Proper (floatText l s)
-    unfolding floatText
-    float-proper s =
-        next (bytes ":") s _ (λ a.
-        ask (isFloat (until (byte ";") a)) 2 l _ (row 2 (omega arith) (omega arith)) (λ b.
-        bind (expect l (bytes ";") (drop (length (until (byte ";") a)) a)) _ (expected (bytes ";") (drop (length (until (byte ";") a)) a)) (λ c. tt)))
-
-    scalar-proper : (k : Kind) (s : List ℕ) → Proper (scalarText k l s)
-    unfolding scalarText
-    scalar-proper Kind.null s = next (bytes ";") s _ (λ a. tt)
-    scalar-proper Kind.bool s = bind (boolText l s) _ (bool-proper s) (λ a. tt)
-    scalar-proper Kind.int s = bind (intText l s) _ (int-proper s) (λ a. tt)
-    scalar-proper Kind.float s = bind (floatText l s) _ (float-proper s) (λ a. tt)
-    scalar-proper Kind.string s = bind (quotedText l (bytes "\";") s) _ (quoted-proper (bytes "\";") s) (λ a. tt)
-    scalar-proper Kind.array s = row 3 (omega arith) (omega arith)
-    scalar-proper Kind.object s = row 3 (omega arith) (omega arith)
-    scalar-proper Kind.objectReference s = row 3 (omega arith) (omega arith)
-    scalar-proper Kind.variableReference s = row 3 (omega arith) (omega arith)
-
-    count-proper : (s : List ℕ) → Proper (countText l s)
-    unfolding countText
-    count-proper s = bind (number l s) _ (number-proper s) (λ a. next (bytes ":{") (a .1) _ (λ b. tt))
-
-    head-proper : (ofArray : Bool) (s : List ℕ) → Proper (headText ofArray l s)
-    unfolding headText
-    head-proper true s = next (bytes ":") s _ (λ a. bind (countText l a) _ (count-proper a) (λ b. tt))
-    head-proper false s = bind (quotedText l (bytes "\":") s) _ (quoted-proper (bytes "\":") s) (λ a. bind (countText l (a .1)) _ (count-proper (a .1)) (λ b. tt))
-
-    named-proper : (s : List ℕ) → Proper (namedText l s)
-    unfolding namedText
-    named-proper s =
-        next (bytes ":") s _ (λ a.
-        bind (number l a) _ (number-proper a) (λ b.
-        next (bytes ";") (b .1) _ (λ c. tt)))
-
-    key-proper : (ofArray : Bool) (k : Kind) (s : List ℕ) → Proper (keyText ofArray k l s)
-    unfolding keyText
-    key-proper ofArray k s = go (test (eqb (tag k) (tag Kind.int)))
-      where
-        go : Test (eqb (tag k) (tag Kind.int)) → Proper (keyText ofArray k l s)
-        go (passed t) = rw (t, Proper) (bind (intText l s) _ (int-proper s) (λ a. tt))
-        go (failed t) = rw (t, Proper) (bind (quotedText l (bytes "\";") s) _ (quoted-proper (bytes "\";") s) (λ a. tt))
-
--- the texts of a form are refused with 2 to 10, at their tag
-pub record ProperTexts (form : Form) : Type 0 where
-  pub scalar : (size l : ℕ) → l < size → (k : Kind) (s : List ℕ) → Proper size (form .scalarText k l s)
-  pub key : (size l : ℕ) → l < size → (ofArray : Bool) (k : Kind) (s : List ℕ) → Proper size (form .keyText ofArray k l s)
-  pub head : (size l : ℕ) → l < size → (ofArray : Bool) (s : List ℕ) → Proper size (form .headText ofArray l s)
-  pub named : (size l : ℕ) → l < size → (s : List ℕ) → Proper size (form .namedText l s)
-
-plan-proper : ProperTexts planForm
-plan-proper = record { scalar = scalar-proper; key = key-proper; head = head-proper; named = named-proper }
+    -- a text is refused with 2 to 10, at its tag
+    text : {A : Type 0} {a : Answer A} → AtTag l l a a → Proper a
+    text (found x e f) = rw e tt
+    text (unfit n lo hi e f) = rw e (row n lo hi)
 
 -- ---- values and pairs
-module _ (set : Setting) (texts : ProperTexts (set .form)) where
+module _ (set : Setting) (steady : Steady (set .form)) where
   abbrev Ok : {A : Type 0} → Answer A → Type 0
   Ok a = Proper (set .size) a
 
@@ -169,7 +76,7 @@ module _ (set : Setting) (texts : ProperTexts (set .form)) where
         let l : ℕ = position set (b ∷ s) in
         bind (set .size) (tagOf (set .form .first) (keyKinds ofArray) 4 l (b ∷ s)) _ (tag-proper (keyKinds ofArray) 4 b s (omega arith) (omega arith)) (λ k.
         ask (set .size) (ltb before (set .terms .capacity)) 7 l _ (row (set .size) l (here b s) 7 (omega arith) (omega arith)) (λ u.
-        bind (set .size) (set .form .keyText ofArray (k .0) l (k .1)) _ (texts .key (set .size) l (here b s) ofArray (k .0) (k .1)) (λ x.
+        bind (set .size) (set .form .keyText ofArray (k .0) l (k .1)) _ (text (set .size) l (here b s) (steady .key ofArray (k .0) (k .1) l l)) (λ x.
         ask (set .size) (not (hasKey (x .0) earlier)) 9 l _ (row (set .size) l (here b s) 9 (omega arith) (omega arith)) (λ w. tt))))
 
     module _ (inner : Inner) (deeper : (seen : Seen) (before : ℕ) (s : List ℕ) → Ok (inner seen before s)) where
@@ -187,20 +94,20 @@ module _ (set : Setting) (texts : ProperTexts (set .form)) where
         branch-proper : (ofArray : Bool) (seen : Seen) (before : ℕ) (s : List ℕ) → Ok (readBranch set inner ofArray l seen before s)
         unfolding readBranch
         branch-proper ofArray seen before s =
-            bind (set .size) (set .form .headText ofArray l s) _ (texts .head (set .size) l h ofArray s) (λ c.
+            bind (set .size) (set .form .headText ofArray l s) _ (text (set .size) l h (steady .head ofArray s l l)) (λ c.
             bind (set .size) (readPairs set inner (isArray (c .0 .0)) (c .0 .1 .1) [] (seeBranch seen) (suc before) (c .1)) _
             (pairs-proper (isArray (c .0 .0)) (c .0 .1 .1) [] (seeBranch seen) (suc before) (c .1)) (λ ps.
-            next (set .size) l h (set .form .close) (ps .1) _ (λ s₄. tt)))
+            bind (set .size) (expect l (set .form .close) (ps .1)) _ (text (set .size) l h (expected l l (set .form .close) (ps .1))) (λ s₃. tt)))
 
         reference-proper : (k : RefKind) (seen : Seen) (s : List ℕ) → Ok (readReference set k l seen s)
         unfolding readReference
         reference-proper k seen s =
-            bind (set .size) (set .form .namedText l s) _ (texts .named (set .size) l h s) (λ n.
+            bind (set .size) (set .form .namedText l s) _ (text (set .size) l h (steady .named s l l)) (λ n.
             ask (set .size) (ltb 0 (n .0 .1) && leb (n .0 .1) seen) 6 l _ (row (set .size) l h 6 (omega arith) (omega arith)) (λ d. tt))
 
         readScalar-proper : (k : Kind) (s : List ℕ) → Ok (readScalar set k l s)
         unfolding readScalar
-        readScalar-proper k s = bind (set .size) (set .form .scalarText k l s) _ (texts .scalar (set .size) l h k s) (λ x. tt)
+        readScalar-proper k s = bind (set .size) (set .form .scalarText k l s) _ (text (set .size) l h (steady .scalar k s l l)) (λ x. tt)
 
         body-proper : (k : Kind) (seen : Seen) (before : ℕ) (s : List ℕ) → Ok (readBody set inner k l seen before s)
         unfolding readBody
@@ -236,19 +143,19 @@ behind set (b ∷ s) f h g = row (set .size) (position set (b ∷ s)) (omega ari
 one : (size : ℕ) → RefusalRow size 1 0
 one size = record { least = omega arith; most = omega arith; start = λ e. refl; inside = omega arith; byte = λ e. omega arith }
 
-read-proper : (form : Form) → ProperTexts form → (terms : Terms) (source : List ℕ) → Proper (length source) (readIn form terms source)
+read-proper : (form : Form) → Steady form → (terms : Terms) (source : List ℕ) → Proper (length source) (readIn form terms source)
 unfolding readIn
-read-proper form texts terms [] = two 0 0 (omega arith)
-read-proper form texts terms (b ∷ s) =
+read-proper form steady terms [] = two 0 0 (omega arith)
+read-proper form steady terms (b ∷ s) =
     let set : Setting = settingIn form terms (b ∷ s) in
     ask (set .size) (leb (set .size) sourceLimit) 1 0 _ (one (set .size)) (λ u.
-    bind (set .size) (readValue set depthLimit unseen 0 (b ∷ s)) _ (value-proper set texts (omega arith) depthLimit unseen 0 (b ∷ s)) (λ v.
+    bind (set .size) (readValue set depthLimit unseen 0 (b ∷ s)) _ (value-proper set steady (omega arith) depthLimit unseen 0 (b ∷ s)) (λ v.
     behind set (v .1) _ (omega arith) (λ w. tt)))
 
 -- "A refusal returns its number and a position": of reading in any form, 1 to 10, and where the table's last column may point
-pub refusal-proper-in : (form : Form) → ProperTexts form → (terms : Terms) (source : List ℕ) (n p : ℕ) → readIn form terms source ≡ refused n p
+pub refusal-proper-in : (form : Form) → Steady form → (terms : Terms) (source : List ℕ) (n p : ℕ) → readIn form terms source ≡ refused n p
     → RefusalRow (length source) n p
-refusal-proper-in form texts terms source n p e = subst (Proper (length source)) e (read-proper form texts terms source)
+refusal-proper-in form steady terms source n p e = subst (Proper (length source)) e (read-proper form steady terms source)
 
 pub refusal-proper : (terms : Terms) (source : List ℕ) (n p : ℕ) → read terms source ≡ refused n p → RefusalRow (length source) n p
-refusal-proper terms source n p e = refusal-proper-in planForm plan-proper terms source n p e
+refusal-proper terms source n p e = refusal-proper-in planForm plan-steady terms source n p e
