@@ -112,9 +112,9 @@ fn room_of(room: usize, measured: Edited) -> Room
     Room::Exceeded
 }
 
-// Whether there is room for the edited plan. Written where there is none for any of it, in the empty part of the output, a longer one is only measured: so one
-// loop measures and writes, and a refusal has written nothing.
-fn room_for(
+// Whether there is room for the edited plan, measured: written where there is none for any of it, in the empty part of the output. So one loop measures and
+// writes, and a refusal has written nothing.
+fn measure(
     source: &[u8],
     table: &[u64],
     edit: Edit,
@@ -127,11 +127,27 @@ fn room_for(
         (now (out .entry)) (now (out .exit)) r ⌝ }
 {
     let room = out.len();
-    if is_spared(room, edit, source.len(), key.len(), value.len()) {
-        return Room::Enough;
-    }
     let measured = write(source, table, edit, key, value, &mut out[..0]);
     room_of(room, measured)
+}
+
+// Whether there is room for the edited plan: only a longer one is measured.
+fn room_for(
+    source: &[u8],
+    table: &[u64],
+    edit: Edit,
+    key: &[u8],
+    value: &[u8],
+    out: &mut [u8],
+) -> Room
+    requires { ⌜ EditFits (now source) (now table) edit (now key) (now value) ⌝ }
+    ensures { λ r. ⌜ Roomed (now (source .entry)) (now (table .entry)) edit (now (key .entry)) (now (value .entry))
+        (now (out .entry)) (now (out .exit)) r ⌝ }
+{
+    if is_spared(out.len(), edit, source.len(), key.len(), value.len()) {
+        return Room::Enough;
+    }
+    measure(source, table, edit, key, value, out)
 }
 
 // 14, and then the edited plan is written and read. The table is that of the plan given: it tells the nodes of its tokens.

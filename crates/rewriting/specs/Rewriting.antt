@@ -28,7 +28,7 @@ pub record ChangeFits (c : Change) : Type 0 where
 abbrev pub Named : List ℕ → (at : ℕ) → Text → Type 0
 Named s at x = ReferenceTag (getD s at 0) → x .content ≤ numberLimit
 
--- one from the first on that moves, if any does
+-- whether a reference to this ordinal moves: from the first one on, if it comes to name another
 unfoldable pub isRenumbered : Renumbering → (named : ℕ) → Bool
 isRenumbered m n = not (eqb (m .down) (m .up)) && leb (m .from) n
 

@@ -1,6 +1,5 @@
 -- `rewriting::stretch::next_node` meets its contract. Assumes nothing.
 use native.Mathlib.Omega.{arith}
-use borrow.Author.Needs.{needs}
 use Rattle.rewriting.proofs.Rewritten as rewritten
 use Rattle.rewriting.proofs.stretch.next_node.Statement.{statement}
 use Rattle.rewriting.proofs.stretch.next_node.Tie as tie
