@@ -4,6 +4,14 @@ use borrow.Author.Needs.{needs}
 use Rattle.editor.proofs.insert.Statement.{statement}
 use Rattle.editor.proofs.insert.Tie as tie
 
+-- the text first: what an edit breaks is seen there
+returns-2 : tie.Need-returns-2
+returns-2 c =
+    let known = c .before .before .before .before .before .before .before .before in
+    let placed = known .before .before .before .before .locate .ensures in
+    c .before .before .before .before .write-plan .ensures _ _ (ended.spot-table placed (known .placing .given .1))
+    (ended.located placed (known .placing .given .1) .bytes _)
+
 locate-requires : tie.Need-locate-requires
 locate-requires c κs = search needs
 
@@ -35,13 +43,6 @@ same-length-2 c = search needs
 
 same-length-3 : tie.Need-same-length-3
 same-length-3 c = search needs
-
-returns-2 : tie.Need-returns-2
-returns-2 c =
-    let known = c .before .before .before .before .before .before .before .before in
-    let placed = known .before .before .before .before .locate .ensures in
-    c .before .before .before .before .write-plan .ensures _ _ (ended.spot-table placed (known .placing .given .1))
-    (ended.located placed (known .placing .given .1) .bytes _)
 
 pub insert-spec : {M : Type 1} → statement M
 insert-spec =
