@@ -16,7 +16,7 @@ use Rattle.format.specs.Syntax.{Spelling, Key, Scalar, Container, Head, 
 use Rattle.format.specs.Keys.{hasKey}
 use Rattle.format.specs.Limits.{sourceLimit, depthLimit, Terms, Seen, unseen, seeBranch, see}
 use Rattle.format.specs.Fits.{Backward, BackwardIn, Shallow, ShallowIn}
-use Rattle.format.specs.Answer.{Answer, ok, refused, _>>=_, require}
+use Rattle.format.specs.Answer.{Answer, ok, refused, require}
 use Rattle.format.specs.Read.{Form, Setting, settingIn, position, isArray, Inner, expect, kindOf, tagOf, roomFor, readKey, readPairs}
 use Rattle.format.specs.Read.{readBranch, readReference, readScalar, readBody, readValue, readIn}
 use Rattle.format.proofs.Answers.{ok-same, not-both, bind-ok, require-ok}

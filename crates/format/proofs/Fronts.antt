@@ -1,6 +1,6 @@
 -- What a part is written as stands in front of what follows it; the lengths of parts. Assumes nothing.
 use mathlib.Core.Path.{_≡_, refl, sym, ap, _∙_}
-use mathlib.Core.List.{List, _∷_, _++_, append-assoc}
+use mathlib.Core.List.{List, [], _∷_, _++_, append-assoc}
 use Prim.Native.Nat.{ℕ, _+_}
 use native.Mathlib.Omega.{arith}
 use lib.ListN.{length, length-append}
@@ -69,6 +69,10 @@ mutual
 -- ---- lengths
 pub number-length : (w : Spelling) (n : ℕ) (r : List ℕ) → length (writeNumber w n r) ≡ w .zeros + length (decimal n) + length r
 number-length w n r = length-append (spelled (w .zeros) n) r ∙ ap (λ (m : ℕ). m + length r) (spelled-length (w .zeros) n)
+
+-- however it is spelled
+pub number-adds : (w : Spelling) (n : ℕ) (r : List ℕ) → length (writeNumber w n r) ≡ length (writeNumber w n []) + length r
+number-adds w n r = ap length (number-front w n [] r) ∙ length-append (writeNumber w n []) r
 
 pub quoted-length : (q : Quoted) (r : List ℕ)
     → length (writeQuoted q r) ≡ q .spelling .zeros + length (decimal (length (q .text))) + length (q .text) + length r + 3

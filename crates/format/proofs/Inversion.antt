@@ -1,21 +1,20 @@
 -- What reading accepts is the print of a syntax that fits. Assumes nothing.
-use mathlib.Core.Path.{_≡_, sym, ap, _∙_, subst}
+use mathlib.Core.Path.{_≡_, ap, _∙_}
 use mathlib.Core.List.{List, [], _∷_}
 use mathlib.Core.Bool.{Bool, true, false}
-use Prim.Native.Nat.{ℕ, _≤_}
+use Prim.Native.Nat.{ℕ}
 use lib.Dec.{T}
-use lib.ListN.{length}
 use Rattle.format.specs.Bytes.{byte, bytes}
 use Rattle.format.specs.Kind.{keyKinds, tag}
 use Rattle.format.specs.Tree.{leaf, ref, branch, none, pair, count}
-use Rattle.format.specs.Syntax.{array, object, Key, Scalar, Container, refKind, Value, Values, writeNumber, writeKey, writeScalar, writeContainer}
-use Rattle.format.specs.Syntax.{write, writePairs, print}
-use Rattle.format.specs.Limits.{numberLimit, Terms, Seen, unseen}
-use Rattle.format.specs.Fits.{KeyFits, ScalarFits, ContainerFits, allowed, Sound, SoundIn, Limited, LimitedIn, IsPlan}
+use Rattle.format.specs.Syntax.{array, object, Key, Container, refKind, Value, Values, writeNumber, writeKey, writeContainer}
+use Rattle.format.specs.Syntax.{write, writePairs}
+use Rattle.format.specs.Limits.{Terms, Seen}
+use Rattle.format.specs.Fits.{KeyFits, allowed, Sound, SoundIn, Limited, LimitedIn, IsPlan}
 use Rattle.format.specs.Canonical.{shortest}
 use Rattle.format.specs.Answer.{ok}
 use Rattle.format.specs.Read.{planForm, setting, isArray, readKey, readValue, read}
-use Rattle.format.proofs.Forms.{WritesScalar, WritesKey, WritesHead, Writing, WritingIn, Fresh, FreshIn, key-got, value-got, accepted-fits}
+use Rattle.format.proofs.Forms.{WritesKey, Writing, WritingIn, Fresh, FreshIn, key-got, value-got, accepted-fits}
 use Rattle.format.proofs.PlanForm.{plan-steady}
 use Rattle.format.proofs.Texts.{tag-ok, expect-ok, scalarText-ok, head-ok, named-ok, key-kind, keyText-ok, key-allowed}
 

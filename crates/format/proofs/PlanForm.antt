@@ -13,7 +13,7 @@ use Rattle.format.specs.Kind.{Kind, tag}
 use Rattle.format.specs.Syntax.{Scalar}
 use Rattle.format.specs.Limits.{numberLimit, integerLimit, signOf, isFloat}
 use Rattle.format.specs.Answer.{Answer, ok, refused, _>>=_, require}
-use Rattle.format.specs.Read.{expect, until, digits, number, boolText, intText, floatText, quotedText, scalarText, countText, headText, namedText}
+use Rattle.format.specs.Read.{until, digits, number, boolText, intText, floatText, quotedText, scalarText, countText, headText, namedText}
 use Rattle.format.specs.Read.{keyText, planForm}
 use Rattle.format.proofs.Forms.{Tagged, AtTag, found, unfit, Steady, expected}
 use Rattle.format.proofs.Texts.{head-ok}

@@ -4,14 +4,14 @@ use native.Mathlib.Omega.{arith}
 use mathlib.Core.Path.{_≡_, refl, ap, ap₂, _∙_}
 use mathlib.Core.Bool.{true}
 use mathlib.Core.List.{List, [], _∷_, _++_}
-use lib.ListN.{length, drop, length-drop, length-append}
+use lib.ListN.{length, drop, length-drop}
 use borrow.Author.Tests.{le-leb}
-use Rattle.decimal.specs.Digits.{spelled}
 use Rattle.format.specs.Bytes.{byte}
 use Rattle.format.specs.Kind.{Kind, tag}
 use Rattle.format.specs.Syntax.{writeNumber}
 use Rattle.format.specs.Limits.{numberLimit}
 use Rattle.format.specs.Canonical.{shortest}
+use Rattle.format.proofs.Fronts.{number-adds}
 use Rattle.scanner.specs.Scans.{tell}
 use Rattle.tokens.specs.Tokens.{Token}
 use Rattle.tokens.proofs.Stretches.{between-stretch}
@@ -61,7 +61,7 @@ module _ {s : List ℕ} {p : Splice} (e : Splices s p) where
     arith,
     e .inside,
     ap length head-here,
-    length-append (spelled (e .head .spelling .zeros) (e .head .pairs)) (58 ∷ 123 ∷ drop (p .inside) s),
+    number-adds (e .head .spelling) (e .head .pairs) (58 ∷ 123 ∷ drop (p .inside) s),
     length-drop (p .at) s,
     length-drop (p .inside) s,
   )

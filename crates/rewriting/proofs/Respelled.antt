@@ -9,7 +9,7 @@ use lib.ListN.{length, getD, drop, length-append, length-drop}
 use lib.Seq.{slice}
 use Rattle.decimal.specs.Digits.{decimal, spelled}
 use Rattle.decimal.specs.Complement.{pattern}
-use Rattle.decimal.proofs.Numerals.{spelled-length, spelled-some}
+use Rattle.decimal.proofs.Numerals.{spelled-some}
 use Rattle.decimal.proofs.Complements.{InBits, sign-back, magnitude-back}
 use Rattle.format.specs.Bytes.{byte}
 use Rattle.format.specs.Kind.{Kind, tag}
@@ -19,7 +19,7 @@ use Rattle.format.specs.Keys.{signed, integer}
 use Rattle.format.specs.Limits.{numberLimit, integerLimit}
 use Rattle.format.specs.Table.{word}
 use Rattle.format.specs.Canonical.{shortest, shortestSign}
-use Rattle.format.proofs.Fronts.{sign-front, number-front, number-length, quoted-length}
+use Rattle.format.proofs.Fronts.{sign-front, number-front, number-length, number-adds, quoted-length}
 use Rattle.scanner.specs.declared.Text.{Text}
 use Rattle.rewriting.specs.Output.{withSign, signedDigits}
 use Rattle.rewriting.specs.Shortest.{numberedText, shortestBy, shortestText, QuotedBounds, Bounds}
@@ -55,11 +55,14 @@ module _ (s : List ℕ) (at : ℕ) where
 
   -- a number m in the place of the n between a tag and a tail
   numbered-is : (b : ℕ) (w : Spelling) (n m : ℕ) (tail r : List ℕ) → drop at s ≡ b ∷ 58 ∷ writeNumber w n (tail ++ r) → (from to : ℕ)
-      → from ≡ at + 2 + length (spelled (w .zeros) n) → to ≡ from + length tail
+      → from ≡ at + 2 + length (writeNumber w n []) → to ≡ from + length tail
       → numberedText s at m from to ≡ b ∷ 58 ∷ writeNumber shortest m tail
   numbered-is b w n m tail r e from to f g =
       ap₂ _++_ (front b (writeNumber w n (tail ++ r)) e)
-      (ap (λ (l : List ℕ). decimal m ++ l) (slice-of s at (b ∷ 58 ∷ spelled (w .zeros) n) tail r e from to (omega arith) g))
+      (ap (λ (l : List ℕ). decimal m ++ l) (slice-of s at (b ∷ 58 ∷ writeNumber w n []) tail r split from to (omega arith) g))
+    where
+      split : drop at s ≡ (b ∷ 58 ∷ writeNumber w n []) ++ (tail ++ r)
+      split = e ∙ ap {B = List ℕ} (λ y. b ∷ 58 ∷ y) (number-front w n [] (tail ++ r))
 
   -- a token that stands there
   module _ (t : Token) (next : ℕ) (e : drop at s ≡ writeToken t (drop next s)) (h : next ≤ length s) where
@@ -120,11 +123,10 @@ module _ (s : List ℕ) (at : ℕ) (x : Text) where
       let c : x .content ≡ at + 1 + 3 + length (writeNumber w n []) = ap (λ (u : Text). u .content) (st .tells) in
       by-tag 115 _ _ e (
       ap (λ (k : ℕ). numberedText s at k (x .content - 2) (x .next)) (ap (λ (u : Text). u .size) (st .tells))
-      ∙ numbered-is s at 115 w n n tail (drop (x .next) s) e (x .content - 2) (x .next) (omega (arith, number-length w n [], spelled-length (w .zeros) n))
+      ∙ numbered-is s at 115 w n n tail (drop (x .next) s) e (x .content - 2) (x .next) (omega arith)
       (omega (
         arith,
-        number-length w n [],
-        number-length w n (tail ++ drop (x .next) s),
+        number-adds w n (tail ++ drop (x .next) s),
         length-append tail (drop (x .next) s),
         st .inside,
         length-drop at s,
@@ -138,14 +140,13 @@ module _ (s : List ℕ) (at : ℕ) (x : Text) where
       → k ≡ length tail
       → numberedText s at m (x .next - k) (x .next) ≡ b ∷ 58 ∷ writeNumber shortest m tail
   tail-of b w n m k tail h e f =
-      let z : x .next ≡ at + 2 + length (spelled (w .zeros) n) + length tail = omega (
+      let z : x .next ≡ at + 2 + length (writeNumber w n []) + length tail = omega (
         arith,
         h,
         length-drop at s,
         length-drop (x .next) s,
         ap length e,
-        number-length w n (tail ++ drop (x .next) s),
-        spelled-length (w .zeros) n,
+        number-adds w n (tail ++ drop (x .next) s),
         length-append tail (drop (x .next) s),
       ) in
       numbered-is s at b w n m tail (drop (x .next) s) e (x .next - k) (x .next) (omega arith) (omega arith)
@@ -179,17 +180,19 @@ module _ (s : List ℕ) (at : ℕ) (x : Text) where
       let r : List ℕ = drop (x .next) s in
       let rest : List ℕ = writeNumber v n (58 ∷ 123 ∷ r) in
       let tail : List ℕ = 58 ∷ 34 ∷ q .text ++ (34 ∷ 58 ∷ []) in
-      let before : List ℕ = writeNumber w m tail ++ spelled (v .zeros) n in
+      let before : List ℕ = writeNumber w m tail ++ writeNumber v n [] in
       let e : drop at s ≡ 79 ∷ 58 ∷ writeNumber w m (tail ++ rest) =
       st .written ∙ ap (λ (y : List ℕ). 79 ∷ 58 ∷ writeNumber w m (58 ∷ 34 ∷ y)) (sym (append-assoc (q .text) (34 ∷ 58 ∷ []) rest)) in
       let f : drop at s ≡ (79 ∷ 58 ∷ before) ++ (58 ∷ 123 ∷ r) =
-      e ∙ ap {B = List ℕ} (λ y. 79 ∷ 58 ∷ y) (number-front w m tail rest ∙ sym (append-assoc (writeNumber w m tail) (spelled (v .zeros) n) (58 ∷ 123 ∷ r))) in
+      e ∙ ap {B = List ℕ} (λ y. 79 ∷ 58 ∷ y)
+      (number-front w m tail rest ∙ ap (λ (y : List ℕ). writeNumber w m tail ++ y) (number-front v n [] (58 ∷ 123 ∷ r))
+      ∙ sym (append-assoc (writeNumber w m tail) (writeNumber v n []) (58 ∷ 123 ∷ r))) in
       let len : x .next ≡ at + 2 + length before + 2 =
       omega (arith, st .inside, length-drop at s, length-drop (x .next) s, ap length f, length-append before (58 ∷ 123 ∷ r)) in
       let c : x .content ≡ at + 1 + 3 + length (writeNumber w m []) = ap (λ (u : Text). u .content) (st .tells) in
       let z : x .size ≡ m = ap (λ (u : Text). u .size) (st .tells) in
       let named : numberedText s at m (x .content - 2) (x .content + x .size + 2) ≡ 79 ∷ 58 ∷ writeNumber shortest m tail
-      = numbered-is s at 79 w m m tail rest e (x .content - 2) (x .content + x .size + 2) (omega (arith, number-length w m [], spelled-length (w .zeros) m))
+      = numbered-is s at 79 w m m tail rest e (x .content - 2) (x .content + x .size + 2) (omega arith)
       (omega (arith, length-append (q .text) (34 ∷ 58 ∷ []))) in
       let brace : slice (x .next - 2) (x .next) s ≡ 58 ∷ 123 ∷ [] =
       slice-of s at (79 ∷ 58 ∷ before) (58 ∷ 123 ∷ []) r f (x .next - 2) (x .next) (omega arith) (omega arith) in

@@ -14,7 +14,7 @@ use Rattle.decimal.proofs.Numerals.{areDigits, digit-high, decimal-small, decim
 use Rattle.format.specs.Bytes.{byte}
 use Rattle.format.specs.Kind.{Kind, tag}
 use Rattle.format.specs.Syntax.{null, bool, int, float, string, array, object, Spelling, Sign, unsigned, plus, minus, Container, writeNumber, writeSign}
-use Rattle.format.specs.Canonical.{shortestSign}
+use Rattle.format.specs.Canonical.{shortest, shortestSign}
 use Rattle.format.proofs.Fronts.{number-length}
 use Rattle.scanner.specs.declared.Text.{Text}
 use Rattle.scanner.specs.Scans.{Found}
@@ -50,6 +50,9 @@ no-zeros zero n r f = refl
 no-zeros (suc z) n r (fronts.digit h) = absurd (omega (arith, h))
 no-zeros (suc z) n r (fronts.alone h) = absurd (omega (arith, h, spelled-first z n r))
 no-zeros (suc z) n r (fronts.minus h i) = absurd (omega (arith, h))
+
+pub shortest-number : (w : Spelling) (n : ℕ) (r : List ℕ) → ShortestFront (getD (writeNumber w n r) 0 0) (getD (writeNumber w n r) 1 0) → shortest ≡ w
+shortest-number w n r f = ap (λ (z : ℕ). record { zeros = z }) (sym (no-zeros (w .zeros) n r f))
 
 -- AND AN INTEGER
 shortest-integer : (g : Sign) (z n : ℕ) (r : List ℕ) → ShortestFront (getD (writeSign g (spelled z n ++ r)) 0 0) (getD (writeSign g (spelled z n ++ r)) 1 0)
@@ -89,8 +92,7 @@ module _ (s : List ℕ) (at : ℕ) (x : Text) where
         → ShortestFront (getD s (at + 2) 0) (getD s (at + 3) 0)
         → canonicalToken (opening (record { container = c; spelling = w }) k) ≡ opening (record { container = c; spelling = w }) k
     same-opening array w k st f =
-        ap (λ (z : ℕ). opening (record { container = array; spelling = record { zeros = z } }) k)
-        (sym (no-zeros (w .zeros) k _ (front-of s at 97 _ (st .written) f)))
+        ap (λ (u : Spelling). opening (record { container = array; spelling = u }) k) (shortest-number w k _ (front-of s at 97 _ (st .written) f))
     same-opening (object q) w k st f = absurd (n (first-byte s at 79 _ (st .written)))
 
     same-token : (t : Token) → Stands s at t x → ShortestFront (getD s (at + 2) 0) (getD s (at + 3) 0) → canonicalToken t ≡ t
@@ -102,11 +104,11 @@ module _ (s : List ℕ) (at : ℕ) (x : Text) where
         ∙ ap (λ (z : ℕ). scalar (int (record { sign = i .sign; zeros = z; magnitude = i .magnitude }))) (sym (p .1))
     same-token (scalar (float t)) st f = refl
     same-token (scalar (string q)) st f =
-        ap (λ (z : ℕ). scalar (string (record { spelling = record { zeros = z }; text = q .text })))
-        (sym (no-zeros (q .spelling .zeros) (length (q .text)) _ (front-of s at 115 _ (st .written) f)))
+        ap (λ (u : Spelling). scalar (string (record { spelling = u; text = q .text })))
+        (shortest-number (q .spelling) (length (q .text)) _ (front-of s at 115 _ (st .written) f))
     same-token (reference r) st f =
-        ap (λ (z : ℕ). reference (record { kind = r .kind; spelling = record { zeros = z }; named = r .named }))
-        (sym (no-zeros (r .spelling .zeros) (r .named) _ (front-of s at _ _ (st .written) f)))
+        ap (λ (u : Spelling). reference (record { kind = r .kind; spelling = u; named = r .named }))
+        (shortest-number (r .spelling) (r .named) _ (front-of s at _ _ (st .written) f))
     same-token (opening h k) st f = same-opening (h .container) (h .spelling) k st f
     same-token closing st f = refl
 

@@ -1,7 +1,7 @@
 -- What the public scans promise: the definition's answer from their index on, and what the text tells its node.
 use mathlib.Core.Path.{_≡_}
 use mathlib.Core.List.{List, []}
-use mathlib.Core.Bool.{Bool, true, false}
+use mathlib.Core.Bool.{Bool}
 use Prim.Native.Nat.{ℕ, _+_, _-_, _≤_, _<_}
 use lib.ListN.{length, drop}
 use Rattle.format.specs.Bytes.{bytes}
