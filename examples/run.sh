@@ -73,8 +73,8 @@ ends "$scratch/old" 2 2
 
 echo
 echo '2024 is a leap year. 29 February goes in behind the 28th:'
-echo "  build/tonschnecke insert $plan --array /months/2 --at end --key 'i:29;' --value 'd:9.5;' -o $leap"
-build/tonschnecke insert "$plan" --array /months/2 --at end --key 'i:29;' --value 'd:9.5;' -o "$leap"
+echo "  build/tonschnecke insert $plan --array /months/2 --after 28 --int-key 29 --float 9.5 -o $leap"
+build/tonschnecke insert "$plan" --array /months/2 --after 28 --int-key 29 --float 9.5 -o "$leap"
 build/tonschnecke show "$leap" > "$scratch/new"
 ends "$scratch/new" 2 3
 

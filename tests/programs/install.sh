@@ -63,7 +63,7 @@ cp examples/insert.c "$scratch"
 "$scratch/insert" | diff examples/insert.out -
 
 printf 'a:3:{i:0;d:1.5;i:1;d:2.5;i:2;R:3;}' > "$scratch/plan"
-"$prefix/bin/tonschnecke" insert "$scratch/plan" --in-place --array / --at 1 --key 'i:59;' --value 'd:2;'
+"$prefix/bin/tonschnecke" insert "$scratch/plan" --quiet --in-place --array / --at 1 --key 'i:59;' --value 'd:2;'
 equal 'a pair inserted by the command' "$(cat "$scratch/plan")" 'a:4:{i:0;d:1.5;i:59;d:2;i:1;d:2.5;i:2;R:4;}'
 make --silent uninstall PREFIX="$prefix" DESTDIR=
 equal 'files left' "$(files "$prefix")" ''

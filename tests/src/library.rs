@@ -1,7 +1,8 @@
 //! The archive under test, called through the wrapper that users have; its answers as numbers.
 
 use crate::call::{Lent, Place};
-use tonschnecke::{Insertion, Refusal};
+use tonschnecke::lent::{self, Insertion};
+use tonschnecke::Refusal;
 
 /// What reading returns. Code 0: accepted.
 #[derive(Clone, Copy, Debug, PartialEq, Eq)]
@@ -22,7 +23,7 @@ pub struct Writing {
 
 /// Has the library read `source` into `table`.
 pub fn read(source: &[u8], table: &mut [u64]) -> Reading {
-    match tonschnecke::read(source, table) {
+    match lent::read(source, table) {
         Ok(counted) => Reading {
             code: 0,
             at: 0,
@@ -40,7 +41,7 @@ pub fn read(source: &[u8], table: &mut [u64]) -> Reading {
 
 /// Has the library write the canonical text of `source` to `out`.
 pub fn canonicalize(source: &[u8], table: &mut [u64], out: &mut [u8]) -> Writing {
-    writing(tonschnecke::canonicalize(source, table, out))
+    writing(lent::canonicalize(source, table, out))
 }
 
 /// Has the library write the plan to `out` with the pair put in at its place.
@@ -51,7 +52,7 @@ pub fn insert(texts: Lent, place: Place, table: &mut [u64], out: &mut [u8]) -> W
         key: texts.key,
         value: texts.value,
     };
-    writing(tonschnecke::insert(texts.source, insertion, table, out))
+    writing(lent::insert(texts.source, insertion, table, out))
 }
 
 fn writing(answer: Result<usize, Refusal>) -> Writing {

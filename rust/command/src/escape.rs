@@ -1,51 +1,8 @@
-//! Bytes as text that a terminal shows and a path can hold: what is not literal is `%HH`.
+//! Bytes in columns, for excerpts.
 
-use std::fmt::Write;
-
-/// The bytes, each character that is `literal` as it is, every other byte and each `%` as `%HH`.
-pub fn escape(bytes: &[u8], literal: impl Fn(char) -> bool) -> String {
-    let mut text = String::with_capacity(bytes.len());
-    for chunk in bytes.utf8_chunks() {
-        for character in chunk.valid().chars() {
-            if character != '%' && literal(character) {
-                text.push(character);
-            } else {
-                hexadecimal(character.encode_utf8(&mut [0; 4]).as_bytes(), &mut text);
-            }
-        }
-        hexadecimal(chunk.invalid(), &mut text);
-    }
-    text
-}
-
-fn hexadecimal(bytes: &[u8], text: &mut String) {
-    for byte in bytes {
-        write!(text, "%{byte:02X}").expect("a String takes all");
-    }
-}
-
-/// The text in double quotes.
-pub fn quoted(bytes: &[u8]) -> String {
-    format!("\"{}\"", escape(bytes, |c| c != '"' && printable(c)))
-}
+use tonschnecke::escape::{escape, printable};
 
 /// Every byte in as many columns as it has characters, so that a caret can stand under one.
 pub fn columns(bytes: &[u8]) -> String {
     escape(bytes, |c| c.is_ascii() && printable(c))
-}
-
-/// Whether a terminal shows it: no control, no mark that acts on its neighbours.
-pub fn printable(character: char) -> bool {
-    match character {
-        ' '..='~' => true,
-        _ => !character.is_ascii() && character.escape_debug().len() == 1,
-    }
-}
-
-/// The first `limit` bytes of a text that may be long, shown by `show`, with a mark where it is cut.
-pub fn shortened(bytes: &[u8], limit: usize, show: impl Fn(&[u8]) -> String) -> String {
-    match bytes.get(..limit) {
-        Some(start) if start.len() < bytes.len() => show(start) + "...",
-        _ => show(bytes),
-    }
 }

@@ -1,7 +1,7 @@
 //! Why the command ends without its result.
 
 use std::io::{self, Write};
-use std::process::ExitCode;
+use std::path::Path;
 
 #[derive(Debug)]
 pub enum Failure {
@@ -9,26 +9,42 @@ pub enum Failure {
     Refused(String),
     /// The arguments are not understood.
     Usage(String),
-    /// A file cannot be read or written, or the plan has no such path.
+    /// A file cannot be read or written.
     Trouble(String),
+    /// The plan has no such path.
+    Nowhere(String),
     /// The reader of standard output went away: there is nobody to tell.
     Unread,
 }
 
 impl Failure {
+    /// The same, with the file's name where the sentence speaks of the plan.
+    pub fn of(self, file: Option<&Path>) -> Failure {
+        let named = |message| match file {
+            Some(file) => format!("{}: {message}", file.display()),
+            None => message,
+        };
+        match self {
+            Failure::Refused(message) => Failure::Refused(named(message)),
+            Failure::Nowhere(message) => Failure::Nowhere(named(message)),
+            other => other,
+        }
+    }
+
     /// Says it on standard error, and gives the exit status.
-    pub fn report(self) -> ExitCode {
+    pub fn report(self) -> u8 {
         let (message, status) = match self {
             Failure::Refused(message) => (format!("{message}\n"), 1),
             Failure::Usage(message) => (
-                format!("tonschnecke: {message}\nTry 'tonschnecke --help'.\n"),
+                format!("tonschnecke: {message}\nTry 'tonschnecke help'.\n"),
                 2,
             ),
             Failure::Trouble(message) => (format!("tonschnecke: {message}\n"), 2),
+            Failure::Nowhere(message) => (format!("tonschnecke: {message}\n"), 3),
             Failure::Unread => (String::new(), 2),
         };
         // Where standard error fails, the status is all that can still be told.
         let _ = io::stderr().write_all(message.as_bytes());
-        ExitCode::from(status)
+        status
     }
 }

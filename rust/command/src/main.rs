@@ -4,14 +4,15 @@
 mod arguments;
 mod escape;
 mod failure;
+mod help;
 mod input;
+mod options;
 mod output;
-mod path;
-mod plan;
+mod pair;
 mod refusal;
 mod replace;
+mod report;
 mod service;
-mod tree;
 
 use arguments::Request;
 use failure::Failure;
@@ -19,21 +20,26 @@ use output::Destination;
 use std::env;
 use std::process::ExitCode;
 
-const HELP: &str = include_str!("help.txt");
 const VERSION: &str = concat!("tonschnecke ", env!("CARGO_PKG_VERSION"), "\n");
 
 fn main() -> ExitCode {
-    match run() {
-        Ok(()) => ExitCode::SUCCESS,
+    let status = match arguments::parse(env::args_os().skip(1)) {
+        Ok(Request::Help(text)) => status(say(text)),
+        Ok(Request::Version) => status(say(VERSION)),
+        // A plan that fails keeps none of the others, and the greatest status is given.
+        Ok(Request::Run(jobs)) => {
+            let statuses = jobs.iter().map(|job| status(service::run(job)));
+            statuses.max().unwrap_or(0)
+        }
         Err(failure) => failure.report(),
-    }
+    };
+    ExitCode::from(status)
 }
 
-fn run() -> Result<(), Failure> {
-    let say = |text: &str| Destination::StandardOutput.write(|out| out.write_all(text.as_bytes()));
-    match arguments::parse(env::args_os().skip(1))? {
-        Request::Help => say(HELP),
-        Request::Version => say(VERSION),
-        Request::Run(job) => service::run(&job),
-    }
+fn say(text: &str) -> Result<(), Failure> {
+    Destination::StandardOutput.write(|out| out.write_all(text.as_bytes()))
+}
+
+fn status(outcome: Result<(), Failure>) -> u8 {
+    outcome.map_or_else(Failure::report, |()| 0)
 }

@@ -12,6 +12,8 @@ pub enum Destination {
     File(PathBuf),
     /// The plan's own file.
     InPlace(PathBuf),
+    /// A dry run.
+    Nothing,
 }
 
 impl Destination {
@@ -35,6 +37,7 @@ impl Destination {
             Destination::InPlace(file) => {
                 replace(file, fill).map_err(|error| cannot("replace", file, &error))
             }
+            Destination::Nothing => Ok(()),
         }
     }
 }

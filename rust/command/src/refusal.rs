@@ -1,9 +1,10 @@
 //! What a refusal means, for the one who asked.
 
-use crate::escape::{columns, shortened};
+use crate::escape::columns;
 use crate::failure::Failure;
-use crate::plan::Plan;
-use tonschnecke::{Insertion, Kind, Reason, Refusal};
+use tonschnecke::escape::shortened;
+use tonschnecke::lent::Insertion;
+use tonschnecke::{Kind, Plan, Reason, Refusal};
 
 /// So many bytes are shown on either side of a position.
 const AROUND: usize = 20;
@@ -64,52 +65,49 @@ fn excerpt(source: &[u8], at: usize) -> String {
 }
 
 /// An insertion refused though its plan was read.
-pub fn of_insertion(refusal: Refusal, insertion: Insertion<'_>, plan: &Plan<'_>) -> Failure {
+pub fn of_insertion(refusal: Refusal, insertion: Insertion<'_>, plan: &Plan) -> Failure {
     refused(
         refusal,
         &wrong_with_insertion(refusal.reason, insertion, plan),
     )
 }
 
-fn wrong_with_insertion(reason: Reason, insertion: Insertion<'_>, plan: &Plan<'_>) -> String {
-    let node = insertion.array_node;
+fn wrong_with_insertion(reason: Reason, insertion: Insertion<'_>, plan: &Plan) -> String {
+    let Some(array) = plan.value(insertion.array_node) else {
+        return no_value(insertion.array_node, plan);
+    };
+    let path = array.path();
     match reason {
-        Reason::NoArray => no_array(node, plan),
+        Reason::NoArray => match array.kind() {
+            Kind::Reference { .. } => format!(
+                "{path} is a reference, and no array\n  \
+                 It is {}, and references are not followed",
+                array.brief()
+            ),
+            _ => format!("{path} is {}, and no array", array.brief()),
+        },
         Reason::PlaceAboveCount => format!(
-            "the place {} is above the count of {}, which is {}",
+            "the place {} is above the count of {path}, which is {}",
             insertion.pair_index,
-            plan.path(node),
-            plan.count(node)
+            array.count()
         ),
         Reason::UnfitText => unfit(insertion),
         Reason::EqualKey => {
             let key = shortened(insertion.key, TEXT, columns);
-            format!("{} has this key already\n  {key}", plan.path(node))
+            format!("{path} has this key already\n  {key}")
         }
-        Reason::TooDeep => format!(
-            "a value would stand deeper than 64 in the array {}",
-            plan.path(node)
-        ),
+        Reason::TooDeep => format!("a value would stand deeper than 64 in the array {path}"),
         Reason::OutputFull => "the new plan would be longer than 65,536 bytes".into(),
         _ => reason.to_string(),
     }
 }
 
-fn no_array(node: usize, plan: &Plan<'_>) -> String {
-    let last = plan.len() - 1;
-    if node > last {
-        return format!("there is no node {node}; the last is node {last}");
-    }
-    let is = plan.describe_briefly(node);
-    if plan.is_key(node) {
-        return format!("node {node} is the key {is}, and no array");
-    }
-    let path = plan.path(node);
-    match plan.node(node).kind {
-        Kind::Reference { .. } => format!(
-            "{path} is a reference, and no array\n  It is {is}, and references are not followed"
-        ),
-        _ => format!("{path} is {is}, and no array"),
+/// A node to insert into that is a key's, or none at all.
+fn no_value(node: usize, plan: &Plan) -> String {
+    let last = plan.rows().len() - 1;
+    match plan.key(node) {
+        Some(key) => format!("node {node} is the key {key}, and no array"),
+        None => format!("there is no node {node}; the last is node {last}"),
     }
 }
 
@@ -121,10 +119,14 @@ fn unfit(insertion: Insertion<'_>) -> String {
         key: insertion.key,
         value: b"N;",
     };
-    let source = b"a:0:{}";
-    let mut table = vec![0; tonschnecke::table_words(source.len())];
-    let answer = tonschnecke::insert(source, probe, &mut table, &mut []);
-    let key_unfit = answer.is_err_and(|refused| refused.reason == Reason::UnfitText);
+    let empty = Plan::read("a:0:{}").expect("a plan");
+    let key_unfit = matches!(
+        empty.insert(probe),
+        Err(Refusal {
+            reason: Reason::UnfitText,
+            ..
+        })
+    );
     let (sentence, text) = if key_unfit {
         ("the key is not exactly one i or s", insertion.key)
     } else {

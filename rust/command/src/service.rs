@@ -1,70 +1,109 @@
 //! The four subcommands, each on the library's services.
 
-use crate::arguments::{Array, Insert, Job, Place, Service};
+use crate::arguments::{Job, Service};
 use crate::failure::Failure;
-use crate::plan::Plan;
-use crate::{input, refusal, tree};
+use crate::output::Destination;
+use crate::pair::{Array, Pair, Place};
+use crate::{input, refusal, report};
 use std::io::{self, Write};
-use tonschnecke::{table_words, Insertion, Nodes, SOURCE_LIMIT};
+use tonschnecke::lent::Insertion;
+use tonschnecke::{Kind, Nowhere, Plan, Value};
 
 /// Nothing is opened for writing before the library has accepted.
 pub fn run(job: &Job) -> Result<(), Failure> {
+    perform(job).map_err(|failure| failure.of(job.file.as_deref()))
+}
+
+fn perform(job: &Job) -> Result<(), Failure> {
     let source = input::read(job.file.as_deref())?;
-    let mut table = vec![0; table_words(source.len())];
-    tonschnecke::read(&source, &mut table).map_err(|refused| refusal::of_plan(refused, &source))?;
-    let nodes = Nodes::new(&source, &table);
+    let plan = Plan::read(&source[..]).map_err(|refused| refusal::of_plan(refused, &source))?;
     match &job.service {
-        Service::Nodes => job.destination.write(|out| lines(nodes, out)),
-        Service::Show => job
-            .destination
-            .write(|out| tree::write(&Plan::new(nodes), out)),
-        Service::Canonical => {
-            let text = canonical(&source)?;
-            job.destination.write(|out| out.write_all(&text))
+        Service::Nodes => print(job, |out| lines(&plan, out)),
+        Service::Show { places: false } => print(job, |out| write!(out, "{plan}")),
+        Service::Show { places: true } => {
+            print(job, |out| write!(out, "{}", plan.tree().with_places()))
         }
-        Service::Insert(asked) => {
-            let plan = insert(&source, asked, &Plan::new(nodes))?;
-            job.destination.write(|out| out.write_all(&plan))
+        Service::Canonical => {
+            let canonical = plan.canonical();
+            write(job, &canonical, || report::of_canonical(&plan, &canonical))
+        }
+        Service::Insert(pair) => {
+            let insertion =
+                insertion(pair, &plan).map_err(|nowhere| Failure::Nowhere(nowhere.to_string()))?;
+            let new = plan
+                .insert(insertion)
+                .map_err(|refused| refusal::of_insertion(refused, insertion, &plan))?;
+            write(job, &new, || report::of_insertion(insertion, &plan, &new))
         }
     }
 }
 
+/// Prints lines, below the name of the plan's file where there are several.
+fn print(job: &Job, fill: impl FnOnce(&mut dyn Write) -> io::Result<()>) -> Result<(), Failure> {
+    job.destination.write(|out| {
+        if job.heading {
+            writeln!(out, "==> {} <==", input::name(job.file.as_deref()))?;
+        }
+        fill(out)
+    })
+}
+
+/// Writes the plan's bytes and nothing else, and says what was done.
+fn write(job: &Job, plan: &Plan, done: impl FnOnce() -> String) -> Result<(), Failure> {
+    let put = || {
+        print(job, |out| {
+            out.write_all(plan.bytes())?;
+            if job.heading {
+                writeln!(out)?;
+            }
+            Ok(())
+        })
+    };
+    // A plan ends no line: on a terminal, what is said behind it would stand on its last one.
+    if let Destination::StandardOutput = job.destination {
+        report::say(job, done);
+        put()
+    } else {
+        put().map(|()| report::say(job, done))
+    }
+}
+
 /// A line for each node: its words.
-fn lines(nodes: Nodes<'_>, out: &mut dyn Write) -> io::Result<()> {
-    for [tag, ordinal, word, length, link, end] in nodes.rows() {
+fn lines(plan: &Plan, out: &mut dyn Write) -> io::Result<()> {
+    for [tag, ordinal, word, length, link, end] in plan.rows() {
         writeln!(out, "{tag},{ordinal},{word},{length},{link},{end}")?;
     }
     Ok(())
 }
 
-fn canonical(source: &[u8]) -> Result<Vec<u8>, Failure> {
-    let mut table = vec![0; table_words(source.len())];
-    let mut out = vec![0; source.len()];
-    let length = tonschnecke::canonicalize(source, &mut table, &mut out)
-        .map_err(|refused| refusal::of_plan(refused, source))?;
-    out.truncate(length);
-    Ok(out)
+fn insertion<'p>(pair: &'p Pair, plan: &Plan) -> Result<Insertion<'p>, Nowhere> {
+    let array_node = match &pair.array {
+        Array::Node(node) => *node,
+        Array::Path(path) => plan.find(path)?.node(),
+    };
+    Ok(Insertion {
+        array_node,
+        pair_index: match plan.value(array_node) {
+            Some(array) if matches!(array.kind(), Kind::Array { .. }) => {
+                pair_index(&pair.place, array)?
+            }
+            // The library refuses the node, whatever the place.
+            _ => 0,
+        },
+        key: &pair.key,
+        value: &pair.value,
+    })
 }
 
-fn insert(source: &[u8], asked: &Insert, plan: &Plan<'_>) -> Result<Vec<u8>, Failure> {
-    let array_node = match &asked.array {
-        Array::Node(node) => *node,
-        Array::Path(keys) => plan.find(keys).map_err(Failure::Trouble)?,
+fn pair_index(place: &Place, array: Value<'_>) -> Result<usize, Nowhere> {
+    let place_of = |key| {
+        let value = array.child(key)?;
+        Ok(value.place().expect("an array holds it"))
     };
-    let insertion = Insertion {
-        array_node,
-        pair_index: match asked.place {
-            Place::Index(index) => index,
-            Place::End if array_node < plan.len() => plan.count(array_node),
-            Place::End => 0,
-        },
-        key: &asked.key,
-        value: &asked.value,
-    };
-    let mut table = vec![0; table_words(source.len())];
-    let mut out = vec![0; SOURCE_LIMIT];
-    let length = tonschnecke::insert(source, insertion, &mut table, &mut out)
-        .map_err(|refused| refusal::of_insertion(refused, insertion, plan))?;
-    out.truncate(length);
-    Ok(out)
+    match place {
+        Place::Index(index) => Ok(*index),
+        Place::End => Ok(array.count()),
+        Place::Before(key) => place_of(key),
+        Place::After(key) => Ok(place_of(key)? + 1),
+    }
 }

@@ -2,7 +2,7 @@
 
 #![allow(unsafe_code)]
 
-use crate::Insertion;
+use crate::lent::Insertion;
 
 /// `ton_reading`.
 #[repr(C)]

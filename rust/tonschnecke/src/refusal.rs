@@ -41,7 +41,7 @@ reasons! {
     NumberRange = 5, "the integer has more than 64 bits, or the number is above 65,536";
     /// A reference names an ordinal that no earlier value carries.
     UnknownOrdinal = 6, "the reference names a number that no earlier value carries";
-    /// The table has no room; see [`table_words`](crate::table_words).
+    /// The table has no room; see [`table_words`](crate::lent::table_words).
     TableFull = 7, "the table has no room for the node";
     /// A value stands deeper than 64, or would if it were inserted.
     TooDeep = 8, "the value stands deeper than 64";

@@ -1,16 +1,7 @@
 //! The wrapper's own part: numbers turned into types, and room that suffices.
 
-use tonschnecke::{
-    insert, read, table_words, Insertion, Kind, Node, Nodes, Reading, Reason, ReferenceTag,
-    Refusal, NODE_WORDS, SOURCE_LIMIT,
-};
-
-/// Reads into a table that is said to suffice.
-fn table_of(source: &[u8]) -> (Vec<u64>, Result<Reading, Refusal>) {
-    let mut table = vec![0; table_words(source.len())];
-    let answer = read(source, &mut table);
-    (table, answer)
-}
+use tonschnecke::lent::{self, table_words, Insertion};
+use tonschnecke::{Kind, Plan, Reason, ReferenceTag, Refusal, SOURCE_LIMIT};
 
 const DAY: &[u8] = br#"O:3:"Day":6:{s:1:"i";i:-7;s:1:"d";d:.5;s:1:"b";b:1;s:1:"a";a:1:{i:0;N;}s:1:"r";r:1;s:1:"R";R:5;}"#;
 
@@ -18,58 +9,103 @@ const fn reference(tag: ReferenceTag, ordinal: usize, node: usize) -> Kind<'stat
     Kind::Reference { tag, ordinal, node }
 }
 
-/// The kinds of the day's nodes, with the ordinals that they took.
-const KINDS: [(Kind, Option<usize>); 15] = [
+/// The day's values: the node and the path of each, its kind, the ordinal that it took.
+const VALUES: [(usize, &str, Kind, Option<usize>); 8] = [
     (
+        0,
+        "/",
         Kind::Object {
             class_name: b"Day",
             count: 6,
         },
         Some(1),
     ),
-    (Kind::String(b"i"), None),
-    (Kind::Integer(-7), Some(2)),
-    (Kind::String(b"d"), None),
-    (Kind::Float(b".5"), Some(3)),
-    (Kind::String(b"b"), None),
-    (Kind::Bool(true), Some(4)),
-    (Kind::String(b"a"), None),
-    (Kind::Array { count: 1 }, Some(5)),
-    (Kind::Integer(0), None),
-    (Kind::Null, Some(6)),
-    (Kind::String(b"r"), None),
-    (reference(ReferenceTag::Small, 1, 0), Some(7)),
-    (Kind::String(b"R"), None),
-    (reference(ReferenceTag::Capital, 5, 8), None),
+    (2, "/i", Kind::Integer(-7), Some(2)),
+    (4, "/d", Kind::Float(b".5"), Some(3)),
+    (6, "/b", Kind::Bool(true), Some(4)),
+    (8, "/a", Kind::Array { count: 1 }, Some(5)),
+    (10, "/a/0", Kind::Null, Some(6)),
+    (12, "/r", reference(ReferenceTag::Small, 1, 0), Some(7)),
+    (14, "/R", reference(ReferenceTag::Capital, 5, 8), None),
 ];
 
 #[test]
-fn every_kind_is_decoded() {
-    let (table, answer) = table_of(DAY);
-    let (nodes, ordinals) = (15, 7);
-    assert_eq!(answer, Ok(Reading { nodes, ordinals }));
-    let nodes = Nodes::new(DAY, &table);
-    for (index, (kind, ordinal)) in KINDS.into_iter().enumerate() {
-        let end = match index {
-            0 => 15,
-            8 => 11,
-            _ => index + 1,
-        };
-        assert_eq!(nodes.get(index), Some(Node { kind, ordinal, end }));
-    }
-    assert_eq!(nodes.get(15), None);
+fn every_kind_is_shown() {
+    let plan = Plan::read(DAY).unwrap();
+    assert_eq!((plan.rows().len(), plan.ordinals()), (15, 7));
+    let shown = plan.values().map(|value| {
+        let path = value.path().to_string();
+        (value.node(), path, value.kind(), value.ordinal())
+    });
+    let expected = VALUES.map(|(node, path, kind, ordinal)| (node, path.to_owned(), kind, ordinal));
+    assert_eq!(shown.collect::<Vec<_>>(), expected);
 }
 
 #[test]
-fn words_that_stand_for_no_node_are_none() {
-    for words in [
-        [0; NODE_WORDS],
-        [67, 1, 0, 0, 0, 1],
-        [115, 1, 5, 6, 0, 1],
-        [115, 1, u64::MAX, 1, 0, 1],
-        [256 + 78, 1, 0, 0, 0, 1],
-    ] {
-        assert_eq!(Node::decode(&words, b"s:0:\"\";abc"), None, "{words:?}");
+fn nodes_are_keys_or_values() {
+    let plan = Plan::read(DAY).unwrap();
+    for node in 0..16 {
+        let value = VALUES.iter().any(|known| known.0 == node);
+        assert_eq!(plan.value(node).is_some(), value, "{node}");
+        assert_eq!(plan.key(node).is_some(), !value && node < 15, "{node}");
+    }
+    assert_eq!(plan.key(1), Some("i".into()));
+    assert_eq!(plan.key(9), Some(0.into()));
+}
+
+#[test]
+fn values_know_where_they_stand() {
+    let plan = Plan::read(DAY).unwrap();
+    let null = plan.path("/a/0").unwrap();
+    let array = null.container().unwrap();
+    assert_eq!(
+        (null.key(), null.place(), null.depth()),
+        (Some(0.into()), Some(0), 2)
+    );
+    assert_eq!(
+        (array.key(), array.place(), array.depth()),
+        (Some("a".into()), Some(3), 1)
+    );
+    assert_eq!(array.container(), Some(plan.root()));
+    let root = plan.root();
+    assert_eq!((root.key(), root.place(), root.depth()), (None, None, 0));
+    assert_eq!(root.container(), None);
+    assert_eq!(plan.path("/R").unwrap().target(), Some(array));
+    assert_eq!(array.target(), None);
+    assert_eq!(array.resolved(), array);
+}
+
+#[test]
+fn an_edit_answers_a_new_plan() {
+    let old = Plan::read(&b"a:2:{i:1;d:9.5;i:3;R:2;}"[..]).unwrap();
+    let new = old.root().insert(0, b"i:+0;", b"d:8;").unwrap();
+    assert_eq!(old.bytes(), b"a:2:{i:1;d:9.5;i:3;R:2;}");
+    assert_eq!(new.bytes(), b"a:3:{i:+0;d:8;i:1;d:9.5;i:3;R:3;}");
+    // What the edit left in its table is what reading afresh gives.
+    assert_eq!(new, Plan::read(new.bytes()).unwrap());
+    let canonical = new.canonical();
+    assert_eq!(canonical.bytes(), b"a:3:{i:0;d:8;i:1;d:9.5;i:3;R:3;}");
+    assert_eq!(canonical, Plan::read(canonical.bytes()).unwrap());
+    let refusal = new.root().insert(4, b"i:9;", b"N;").unwrap_err();
+    assert_eq!((refusal.reason, refusal.at), (Reason::PlaceAboveCount, 0));
+}
+
+#[test]
+fn paths_that_lead_nowhere_say_from_where_on() {
+    let plan = Plan::read(DAY).unwrap();
+    let cases = [
+        ("/x", "/ has no key x"),
+        ("/a/1/2", "/a has no key 1"),
+        ("/a/0/2", "/a/0 has no key 2: it is null"),
+        ("/d/x", "/d has no key x: it is .5"),
+        (
+            "/R/0",
+            "/R has no key 0: it is R to /a, array of 1, and references are not followed",
+        ),
+        ("a", "a path begins with /"),
+    ];
+    for (path, error) in cases {
+        assert_eq!(plan.path(path).unwrap_err().to_string(), error);
     }
 }
 
@@ -84,7 +120,7 @@ fn reasons_are_numbered_from_1_on() {
 
 #[test]
 fn a_refusal_says_number_position_and_sentence() {
-    let refusal = table_of(b"a:1:{i:0;r:2;}").1.unwrap_err();
+    let refusal = Plan::read("a:1:{i:0;r:2;}").unwrap_err();
     let sentence = "the reference names a number that no earlier value carries";
     assert_eq!(refusal.to_string(), format!("refused 6 at 9: {sentence}"));
 }
@@ -101,12 +137,12 @@ fn short_sources_have_room() {
             &[first, second],
             &[b'a', b':', b'1', b':', b'{', first, second],
         ] {
-            if let Err(refusal) = table_of(source).1 {
+            if let Err(refusal) = Plan::read(source) {
                 assert_ne!(refusal.reason, Reason::TableFull, "{source:?}");
             }
         }
     }
-    assert_eq!(table_of(b"").1.unwrap_err().reason, Reason::Malformed);
+    assert_eq!(Plan::read("").unwrap_err().reason, Reason::Malformed);
 }
 
 #[test]
@@ -117,17 +153,9 @@ fn the_longest_source_has_room_for_a_pair_more() {
         pairs += &format!("i:{count};N;");
         count += 1;
     }
-    let source = format!("a:{count}:{{{pairs}}}");
-    let insertion = Insertion {
-        array_node: 0,
-        pair_index: count,
-        key: b"s:0:\"\";",
-        value: b"N;",
-    };
-    let mut table = vec![0; table_words(source.len())];
-    let mut out = vec![0; SOURCE_LIMIT];
-    let length = insert(source.as_bytes(), insertion, &mut table, &mut out).unwrap();
-    assert_eq!(Nodes::new(&out[..length], &table).len(), 2 * count + 3);
+    let plan = Plan::read(format!("a:{count}:{{{pairs}}}")).unwrap();
+    let longer = plan.root().insert(count, b"s:0:\"\";", b"N;").unwrap();
+    assert_eq!(longer.rows().len(), 2 * count + 3);
     assert_eq!(table_words(SOURCE_LIMIT + 1), table_words(SOURCE_LIMIT));
     assert_eq!(table_words(usize::MAX), table_words(SOURCE_LIMIT));
 }
@@ -149,7 +177,7 @@ fn a_call_needs_less_than_100_000_bytes_of_stack() {
     let source = deep_and_crowded();
     let called = std::thread::Builder::new()
         .stack_size(100_000)
-        .spawn(move || {
+        .spawn(move || -> Result<usize, Refusal> {
             let insertion = Insertion {
                 array_node: 0,
                 pair_index: 0,
@@ -158,8 +186,8 @@ fn a_call_needs_less_than_100_000_bytes_of_stack() {
             };
             let mut table = vec![0; table_words(source.len())];
             let mut out = vec![0; SOURCE_LIMIT];
-            insert(source.as_bytes(), insertion, &mut table, &mut out)
-                .map(|length| length - source.len())
+            let length = lent::insert(source.as_bytes(), insertion, &mut table, &mut out)?;
+            Ok(length - source.len())
         })
         .unwrap();
     assert_eq!(called.join().unwrap(), Ok("i:-1;N;".len()));

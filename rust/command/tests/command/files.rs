@@ -83,7 +83,7 @@ fn reader_gone() {
 #[test]
 fn endless_input() {
     let error = "refused 1 at 0: the plan is longer than 65,536 bytes\n";
-    run(["show", "/dev/zero"]).fails(1, error);
+    run(["show", "/dev/zero"]).fails(1, &format!("/dev/zero: {error}"));
     let output = command(["canonical"])
         .stdin(File::open("/dev/zero").unwrap())
         .output();

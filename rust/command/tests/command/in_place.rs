@@ -14,6 +14,7 @@ fn canonical(file: &Path) -> Ran {
     run([
         "canonical".as_ref(),
         "--in-place".as_ref(),
+        "--quiet".as_ref(),
         file.as_os_str(),
     ])
 }
@@ -51,6 +52,7 @@ fn inserting() {
     let plan = folder.file("plan", ODD);
     let insert = [
         "insert",
+        "--quiet",
         "--in-place",
         "--array=/",
         "--at=end",

@@ -1,9 +1,14 @@
 //! The command, run as a user would.
 
 mod files;
+mod help;
 mod in_place;
+mod pairs;
 mod paths;
 mod refusals;
+mod reports;
 mod run;
 mod services;
+mod several;
+mod terminal;
 mod usage;

@@ -94,7 +94,7 @@ fn of_a_node_that_is_no_array() {
     );
     refused(&["--array", "/year"], "/year is 2024, and no array");
     refused(&["--node", "4"], "/leap is true, and no array");
-    refused(&["--node", "1"], "node 1 is the key \"year\", and no array");
+    refused(&["--node", "1"], "node 1 is the key year, and no array");
     refused(
         &["--node", "1189"],
         "there is no node 1189; the last is node 1188",

@@ -114,7 +114,7 @@ fn canonical() {
 #[test]
 fn insert() {
     let first = "a:4:{i:0;d:1.5;i:59;d:2;i:1;d:2.5;i:2;R:4;}";
-    let pair = ["--key", "i:59;", "--value", "d:2;"];
+    let pair = ["--key", "i:59;", "--value", "d:2;", "--quiet"];
     let insert = |arguments: &[&'static str]| [&["insert"], arguments, &pair].concat();
     gives(PLAN, &insert(&["--array", "/", "--at", "1"]), first);
     gives(PLAN, &insert(&["--node", "0", "--at=1"]), first);
@@ -134,7 +134,15 @@ fn texts_to_insert_are_any_bytes() {
     use std::ffi::OsStr;
     use std::os::unix::ffi::OsStrExt;
     let value = OsStr::from_bytes(b"--value=s:2:\"=\xff\";");
-    let arguments = ["insert", "--array=/", "--at=0", "--key", "s:2:\"--\";"].map(OsStr::new);
+    let arguments = [
+        "insert",
+        "--quiet",
+        "--array=/",
+        "--at=0",
+        "--key",
+        "s:2:\"--\";",
+    ]
+    .map(OsStr::new);
     pipe(b"a:0:{}", arguments.into_iter().chain([value])).gives(b"a:1:{s:2:\"--\";s:2:\"=\xff\";}");
 }
 
@@ -146,6 +154,7 @@ fn the_longest_plan_that_can_be_written() {
         b"a:0:{}",
         [
             "insert",
+            "--quiet",
             "--node=0",
             "--at=0",
             "--key=i:0;",
@@ -158,26 +167,21 @@ fn the_longest_plan_that_can_be_written() {
 }
 
 #[test]
-fn help_and_version() {
-    let help = run(["--help"]);
-    assert_eq!((help.status, help.error.as_str()), (Some(0), ""));
-    let text = String::from_utf8(help.out.clone()).unwrap();
-    for word in [
-        "nodes",
-        "show",
-        "canonical",
-        "insert",
-        "--array",
-        "--node",
-        "--at",
-        "--key",
-    ] {
-        assert!(text.contains(word), "{word}");
-    }
-    assert!(text.lines().all(|line| line.len() <= 120));
-    assert_eq!(run(["-h"]), help);
-    assert_eq!(run(["insert", "--help"]), help);
-    assert_eq!(run(["show", "/nowhere", "-h"]), help);
+fn version() {
     run(["--version"]).gives("tonschnecke 0.1.0\n");
     run(["-V"]).gives("tonschnecke 0.1.0\n");
+    run(["show", "-V", "/nowhere"]).gives("tonschnecke 0.1.0\n");
+}
+
+#[test]
+fn show_with_places() {
+    let plan = b"a:2:{s:3:\"may\";a:2:{i:7;N;i:0;b:1;}i:5;a:1:{i:0;N;}}";
+    let expected = "/: array of 2
+  [0] may: array of 2
+    [0] 7: null
+    [1] 0: true
+  [1] 5: array of 1
+    [0] 0: null
+";
+    gives(plan, &["show", "--places"], expected);
 }

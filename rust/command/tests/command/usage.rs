@@ -3,15 +3,24 @@
 use crate::run::{command, pipe, run, Folder, Ran, YEAR};
 
 /// Arguments, parted by spaces, and what is said of them.
-const MISTAKES: [(&str, &str); 29] = [
+const MISTAKES: [(&str, &str); 38] = [
     ("", "a subcommand is missing"),
     ("--", "a subcommand is missing"),
     ("list", "unknown subcommand list"),
-    ("show a b", "one FILE is enough; what is b?"),
-    ("show -- a -o", "one FILE is enough; what is -o?"),
+    (
+        "insert a b --array=/ --at=0 --int-key=1 --null",
+        "one FILE is enough to insert into; what is b?",
+    ),
+    ("show a b -o c", "-o takes the result of one FILE"),
+    ("help list", "there is no help on list"),
     ("show --all", "unknown option --all"),
     ("show -x", "unknown option -x"),
-    ("show -ofile", "unknown option -ofile"),
+    ("show -h=x", "unknown option -h=x"),
+    ("show --dry-run a", "show takes no --dry-run"),
+    ("show --quiet a", "show takes no --quiet"),
+    ("canonical a --quiet", "canonical takes no --quiet"),
+    ("nodes --places", "nodes takes no --places"),
+    ("insert --null=x", "--null takes no value"),
     ("show -o=file", "unknown option -o=file"),
     ("show --all=x", "unknown option --all=x"),
     ("show -o", "-o needs a value"),
@@ -36,28 +45,51 @@ const MISTAKES: [(&str, &str); 29] = [
     ),
     (
         "insert --array=/ --key=i:1; --value=N;",
-        "insert needs --at",
+        "insert needs a place: --at, --before or --after",
     ),
-    ("insert --array=/ --at=0 --value=N;", "insert needs --key"),
-    ("insert --array=/ --at=0 --key=i:1;", "insert needs --value"),
+    (
+        "insert --array=/ --at=0 --value=N;",
+        "insert needs a key: --key, --int-key or --string-key",
+    ),
+    (
+        "insert --array=/ --at=0 --key=i:1;",
+        "insert needs a value: --value, --int, --float, --string, --null, --true or --false",
+    ),
     (
         "insert --at=0 --key=i:1; --value=N;",
-        "insert needs --array or --node",
+        "insert needs an array: --array or --node",
     ),
     (
         "insert --array=/ --node=0 --at=0",
         "--array and --node exclude each other",
     ),
+    (
+        "insert --array=/ --at=0 --after=1",
+        "--at and --after exclude each other",
+    ),
+    (
+        "insert --array=/ --at=0 --int-key=1 --key=i:1;",
+        "--key and --int-key exclude each other",
+    ),
+    (
+        "insert --array=/ --at=0 --int-key=1 --true --null",
+        "--null and --true exclude each other",
+    ),
 ];
 
 /// An option of inserting, its unfit value, and what is said of them.
-const UNFIT: [(&str, &str, &str); 10] = [
+const UNFIT: [(&str, &str, &str); 15] = [
     ("--node", "x", "no number of 64 bits"),
     ("--node", "-1", "no number of 64 bits"),
     ("--node", "", "no number of 64 bits"),
     ("--at", "+1", "neither a number of 64 bits nor the word end"),
     ("--at", "18446744073709551616", "neither a number of 64 bits nor the word end"),
     ("--at", "End", "neither a number of 64 bits nor the word end"),
+    ("--before", "", "a path has no empty component; the empty string key is \"\""),
+    ("--after", "%", "in a path, two hexadecimal digits follow each %"),
+    ("--int-key", "29x", "no integer of 64 bits"),
+    ("--int-key", "9223372036854775808", "no integer of 64 bits"),
+    ("--int", "9.5", "no integer of 64 bits"),
     ("--array", "months", "a path begins with /"),
     ("--array", "/a//", "a path has no empty component; the empty string key is \"\""),
     ("--array", "/a%2", "in a path, two hexadecimal digits follow each %"),
@@ -69,7 +101,7 @@ const UNFIT: [(&str, &str, &str); 10] = [
 ];
 
 fn mistaken(arguments: &[&str], message: &str) {
-    let error = format!("tonschnecke: {message}\nTry 'tonschnecke --help'.\n");
+    let error = format!("tonschnecke: {message}\nTry 'tonschnecke help'.\n");
     run(arguments).fails(2, &error);
 }
 
@@ -84,10 +116,12 @@ fn mistakes_are_told() {
 fn unfit_values_are_told() {
     for (option, value, message) in UNFIT {
         let fit: &[&str] = match option {
-            "--at" => &["--node=0"],
-            _ => &["--at=0"],
+            "--at" | "--before" | "--after" => &["--node=0", "--key=i:1;", "--null"],
+            "--int-key" => &["--node=0", "--at=0", "--null"],
+            "--int" => &["--node=0", "--at=0", "--key=i:1;"],
+            _ => &["--at=0", "--key=i:1;", "--null"],
         };
-        let arguments = [&["insert", "--key=i:1;", "--value=N;", option, value], fit].concat();
+        let arguments = [&["insert", option, value], fit].concat();
         mistaken(&arguments, &format!("{option} {value}: {message}"));
     }
 }
@@ -108,7 +142,7 @@ fn paths_that_lead_nowhere() {
     for (path, message) in cases {
         let rest = ["--at=end", "--key=i:1;", "--value=N;"];
         let ran = run(["insert", YEAR, "--array", path].into_iter().chain(rest));
-        ran.fails(2, &format!("tonschnecke: {message}\n"));
+        ran.fails(3, &format!("tonschnecke: {YEAR}: {message}\n"));
     }
 }
 

@@ -24,15 +24,7 @@ pub fn folder(document: &str) -> PathBuf {
         fs::remove_dir_all(&folder).expect("its owner");
     }
     fs::create_dir_all(folder.join("build")).expect("a folder");
-    fs::create_dir(folder.join("rust")).expect("a folder");
-    // Of rust/ only what installing asks for the version.
-    let copied = [
-        "examples",
-        "include",
-        "Makefile",
-        "tonschnecke.pc.in",
-        "rust/Cargo.toml",
-    ];
+    let copied = ["examples", "include", "Makefile", "tonschnecke.pc.in"];
     for name in copied {
         let mut copy = Command::new("cp");
         copy.arg("-r")
@@ -43,15 +35,16 @@ pub fn folder(document: &str) -> PathBuf {
     // As the wrapper's build.rs finds it.
     let given = env::var_os("TONSCHNECKE_LIB_DIR").unwrap_or("../../build".into());
     let archive = project().join("rust/tonschnecke").join(given);
-    let built = [
+    let linked = [
+        (project().join("rust"), "rust"),
         (archive.join("libtonschnecke.a"), "build/libtonschnecke.a"),
         (
             env!("CARGO_BIN_EXE_tonschnecke").into(),
             "build/tonschnecke",
         ),
     ];
-    for (file, name) in built {
-        let file = fs::canonicalize(file).expect("built before");
+    for (file, name) in linked {
+        let file = fs::canonicalize(file).expect("there, or built before");
         symlink(file, folder.join(name)).expect("a link");
     }
     folder

@@ -32,7 +32,13 @@ const CODE: [(&str, &[&str]); 4] = [
             "examples/leap.php",
         ],
     ),
-    ("rust", &["rust/tonschnecke/src/lib.rs"]),
+    (
+        "rust",
+        &[
+            "rust/tonschnecke/src/lib.rs",
+            "rust/tonschnecke/examples/shares.rs",
+        ],
+    ),
     ("toml", &["tests/Cargo.toml"]),
 ];
 

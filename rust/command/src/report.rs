@@ -1,0 +1,61 @@
+//! What an edit did, said on standard error.
+
+use crate::arguments::Job;
+use crate::output::Destination;
+use std::io::{self, Write};
+use tonschnecke::lent::Insertion;
+use tonschnecke::{Kind, Plan};
+
+/// Says it, with the file that was written, unless it is not wanted.
+pub fn say(job: &Job, sentence: impl FnOnce() -> String) {
+    if !job.report {
+        return;
+    }
+    let written = match &job.destination {
+        Destination::StandardOutput => String::new(),
+        Destination::File(file) | Destination::InPlace(file) => format!("{}: ", file.display()),
+        Destination::Nothing => "dry run, nothing is written: ".into(),
+    };
+    let line = format!("{written}{}\n", sentence());
+    // The plan is written: where standard error fails, the status still says so.
+    let _ = io::stderr().write_all(line.as_bytes());
+}
+
+pub fn of_insertion(insertion: Insertion<'_>, old: &Plan, new: &Plan) -> String {
+    let array = old
+        .value(insertion.array_node)
+        .expect("it was inserted into");
+    let raised = ordinals_named(old)
+        .zip(ordinals_named(new))
+        .filter(|(old, new)| old != new)
+        .count();
+    format!(
+        "1 pair put in at place {} of {}, {} raised",
+        insertion.pair_index,
+        array.path(),
+        counted(raised, "reference")
+    )
+}
+
+/// What the references name, in their order, which inserting a plain value does not change.
+fn ordinals_named(plan: &Plan) -> impl Iterator<Item = usize> + '_ {
+    plan.values().filter_map(|value| match value.kind() {
+        Kind::Reference { ordinal, .. } => Some(ordinal),
+        _ => None,
+    })
+}
+
+pub fn of_canonical(old: &Plan, new: &Plan) -> String {
+    match old.bytes().len() - new.bytes().len() {
+        0 if old == new => "the plan is canonical already".into(),
+        fewer => format!("the canonical text has {} fewer", counted(fewer, "byte")),
+    }
+}
+
+fn counted(count: usize, noun: &str) -> String {
+    match count {
+        0 => format!("no {noun}"),
+        1 => format!("1 {noun}"),
+        _ => format!("{count} {noun}s"),
+    }
+}

@@ -1,0 +1,132 @@
+//! What an edit says that it did.
+
+use crate::run::{names, run, Folder, Ran, YEAR};
+use std::fs;
+
+fn said(ran: &Ran, error: &str) {
+    assert_eq!((ran.status, ran.error.as_str()), (Some(0), error));
+}
+
+const DAY: [&str; 3] = ["--array=/months/2", "--int-key=29", "--float=9.5"];
+
+#[test]
+fn of_a_pair_and_the_references_behind_it() {
+    let at = |place: &str| run(["insert", YEAR, place].into_iter().chain(DAY));
+    said(
+        &at("--at=2"),
+        "1 pair put in at place 2 of /months/2, 105 references raised\n",
+    );
+    said(
+        &at("--at=end"),
+        "1 pair put in at place 28 of /months/2, 84 references raised\n",
+    );
+    let folder = Folder::new();
+    let one = folder.file("one", "a:3:{i:1;d:9.5;i:2;d:8;i:5;R:3;}");
+    let insert = |place: &str| {
+        let pair = ["--array=/", "--int-key=7", "--null"];
+        let file = one.to_str().unwrap();
+        run(["insert", file, place].into_iter().chain(pair))
+    };
+    said(
+        &insert("--at=1"),
+        "1 pair put in at place 1 of /, 1 reference raised\n",
+    );
+    said(
+        &insert("--at=2"),
+        "1 pair put in at place 2 of /, no reference raised\n",
+    );
+}
+
+#[test]
+fn names_the_file_that_was_written() {
+    let folder = Folder::new();
+    let plan = folder.file("plan", fs::read(YEAR).unwrap());
+    let (plan, new) = (plan.to_str().unwrap(), folder.path("new"));
+    let new = new.to_str().unwrap();
+    let done = "1 pair put in at place 28 of /months/2, 84 references raised";
+    let ran = run(["insert", plan, "-o", new, "--after=28"]
+        .into_iter()
+        .chain(DAY));
+    said(&ran, &format!("{new}: {done}\n"));
+    let ran = run(["insert", plan, "--in-place", "--after=28"]
+        .into_iter()
+        .chain(DAY));
+    said(&ran, &format!("{plan}: {done}\n"));
+    assert_eq!(fs::read(plan).unwrap(), fs::read(new).unwrap());
+}
+
+#[test]
+fn is_not_wanted() {
+    let folder = Folder::new();
+    let plan = folder.file("plan", fs::read(YEAR).unwrap());
+    let plan = plan.to_str().unwrap();
+    let quiet = ["insert", plan, "--quiet", "--at=end", "--in-place"];
+    said(&run(quiet.into_iter().chain(DAY)), "");
+    said(&run(["canonical", plan, "--quiet", "--in-place"]), "");
+    // What is only printed in another way is no edit.
+    said(&run(["canonical", plan]), "");
+}
+
+#[test]
+fn of_a_dry_run_which_writes_nothing() {
+    let folder = Folder::new();
+    let plan = folder.file("plan", "a:01:{i:+0;N;}");
+    let (plan, new) = (plan.to_str().unwrap(), folder.path("new"));
+    let destinations = [
+        vec![],
+        vec!["--in-place"],
+        vec!["-o", new.to_str().unwrap()],
+    ];
+    for destination in destinations {
+        let insert = [
+            "insert",
+            plan,
+            "--dry-run",
+            "--array=/",
+            "--at=0",
+            "--int-key=7",
+            "--null",
+        ];
+        let ran = run(insert.into_iter().chain(destination.clone()));
+        let done = "1 pair put in at place 0 of /, no reference raised";
+        said(&ran, &format!("dry run, nothing is written: {done}\n"));
+        assert_eq!(ran.out, b"");
+        let ran = run(["canonical", plan, "--dry-run"]
+            .into_iter()
+            .chain(destination));
+        said(
+            &ran,
+            "dry run, nothing is written: the canonical text has 2 bytes fewer\n",
+        );
+        assert_eq!(ran.out, b"");
+    }
+    assert_eq!(names(&folder.path("")), ["plan"]);
+    assert_eq!(fs::read(plan).unwrap(), b"a:01:{i:+0;N;}");
+    let refused = [
+        "insert",
+        plan,
+        "--dry-run",
+        "--array=/",
+        "--at=9",
+        "--int-key=7",
+        "--null",
+    ];
+    assert_eq!(run(refused).status, Some(1));
+}
+
+#[test]
+fn of_canonical_text() {
+    let folder = Folder::new();
+    let cases = [
+        ("a:01:{i:+0;N;}", "the canonical text has 2 bytes fewer"),
+        ("a:01:{i:0;N;}", "the canonical text has 1 byte fewer"),
+        ("a:1:{i:0;N;}", "the plan is canonical already"),
+    ];
+    for (source, done) in cases {
+        let plan = folder.file("plan", source);
+        let plan = plan.to_str().unwrap();
+        let ran = run(["canonical", plan, "--in-place"]);
+        said(&ran, &format!("{plan}: {done}\n"));
+        assert_eq!(fs::read(plan).unwrap(), b"a:1:{i:0;N;}");
+    }
+}
