@@ -2,6 +2,8 @@
 
 use crate::escape::columns;
 use crate::failure::Failure;
+use crate::meant::{meant, Role};
+use crate::recognise::recognise;
 use tonschnecke::escape::shortened;
 use tonschnecke::lent::Insertion;
 use tonschnecke::{Kind, Plan, Reason, Refusal};
@@ -35,7 +37,8 @@ pub fn of_plan(refusal: Refusal, source: &[u8]) -> Failure {
         _ => excerpt(source, refusal.at),
     };
     let what = wrong_with_plan(refusal, source);
-    refused(refusal, &format!("{what}{shown}"))
+    let known = recognise(source, refusal).map_or(String::new(), |known| format!("; {known}"));
+    refused(refusal, &format!("{what}{known}{shown}"))
 }
 
 fn refused(Refusal { reason, at }: Refusal, what: &str) -> Failure {
@@ -43,8 +46,11 @@ fn refused(Refusal { reason, at }: Refusal, what: &str) -> Failure {
 }
 
 fn wrong_with_plan(refusal: Refusal, source: &[u8]) -> String {
-    if refusal.reason != Reason::Malformed {
-        return refusal.reason.to_string();
+    match refusal.reason {
+        Reason::Malformed => {}
+        // The newline that the wrapper's sentence tells of is recognised here.
+        Reason::TrailingBytes => return "bytes follow the value".into(),
+        reason => return reason.to_string(),
     }
     let Some(tag) = source.get(refusal.at) else {
         return "the plan ends where a value or a key is due".into();
@@ -111,29 +117,22 @@ fn no_value(node: usize, plan: &Plan) -> String {
     }
 }
 
-/// Which text is unfit, by asking the library with the other one replaced by a fit one.
+/// Which text is unfit, and what was probably meant by it.
 fn unfit(insertion: Insertion<'_>) -> String {
-    let probe = Insertion {
-        array_node: 0,
-        pair_index: 0,
-        key: insertion.key,
-        value: b"N;",
-    };
-    let empty = Plan::read("a:0:{}").expect("a plan");
-    let key_unfit = matches!(
-        empty.insert(probe),
-        Err(Refusal {
-            reason: Reason::UnfitText,
-            ..
-        })
-    );
-    let (sentence, text) = if key_unfit {
-        ("the key is not exactly one i or s", insertion.key)
-    } else {
+    let (sentence, text, role) = if Role::Key.fits(insertion.key) {
         (
             "the value is not exactly one N, b, i, d or s",
             insertion.value,
+            Role::Value,
+        )
+    } else {
+        (
+            "the key is not exactly one i or s",
+            insertion.key,
+            Role::Key,
         )
     };
-    format!("{sentence}\n  {}", shortened(text, TEXT, columns))
+    let shown = shortened(text, TEXT, columns);
+    let meant = meant(text, role).map_or(String::new(), |meant| format!("\n  {meant}"));
+    format!("{sentence}\n  {shown}{meant}")
 }

@@ -3,8 +3,10 @@
 mod files;
 mod help;
 mod in_place;
+mod meant;
 mod pairs;
 mod paths;
+mod recognised;
 mod refusals;
 mod reports;
 mod run;

@@ -1,0 +1,160 @@
+//! Bytes that are no plan, and what they are said to be.
+
+use crate::run::{pipe, run, Folder, YEAR};
+use std::fs;
+use std::process::Command;
+
+/// The source is refused so by each subcommand, from a file as from a pipe.
+fn refused(source: &[u8], error: &str) {
+    let folder = Folder::new();
+    let file = folder.file("plan", source);
+    let file = file.to_str().unwrap();
+    for subcommand in ["nodes", "show", "canonical"] {
+        pipe(source, [subcommand]).fails(1, error);
+        run([subcommand, file]).fails(1, &format!("{file}: {error}"));
+    }
+}
+
+/// What a program makes of the example year.
+fn made(program: &str, arguments: &[&str]) -> Vec<u8> {
+    let output = Command::new(program).args(arguments).arg(YEAR).output();
+    let output = output.expect("it starts");
+    assert!(output.status.success());
+    output.stdout
+}
+
+#[test]
+fn an_enum() {
+    refused(
+        b"a:1:{i:0;E:11:\"Suit:Hearts\";}",
+        "refused 3 at 9: a value begins with one of N b i d s a O r R; \
+         this is a case of an enum; let PHP serialize its value or its name instead
+  a:1:{i:0;E:11:\"Suit:Hearts\";}
+           ^
+",
+    );
+}
+
+#[test]
+fn a_bom() {
+    refused(
+        b"\xef\xbb\xbfN;",
+        "refused 3 at 0: a value begins with one of N b i d s a O r R; \
+         a byte order mark (BOM), which some editors write, stands before it; without it: tail -c +4 FILE
+  %EF%BB%BFN;
+  ^
+",
+    );
+}
+
+#[test]
+fn gzip() {
+    let packed = made("gzip", &["-nc"]);
+    assert_eq!(packed[..10], *b"\x1f\x8b\x08\0\0\0\0\0\0\x03");
+    let said = "this is gzip; unpack it first: gzip -dc FILE";
+    let ran = pipe(&packed, ["show"]);
+    let (first, shown) = ran.error.split_once('\n').expect("lines");
+    assert_eq!(
+        first,
+        format!("refused 3 at 0: a value begins with one of N b i d s a O r R; {said}")
+    );
+    assert!(shown.starts_with("  %1F%8B%08%00%00%00%00%00%00%03"));
+    // Too long, and gzip.
+    let long = [packed, vec![0; 65_536]].concat();
+    refused(
+        &long,
+        &format!("refused 1 at 0: the plan is longer than 65,536 bytes; {said}\n"),
+    );
+}
+
+#[test]
+fn base64() {
+    for arguments in [&[][..], &["-w0"]] {
+        refused(
+            &made("base64", arguments),
+            "refused 3 at 0: a value begins with one of N b i d s a O r R; \
+             this is base64; decode it first: base64 -d FILE
+  Tzo3OiJBaXJQbGFuIjoz...
+  ^
+",
+        );
+    }
+}
+
+#[test]
+fn a_session() {
+    let said = "this is a PHP session, a plan behind each |; \
+                in PHP, serialize($_SESSION) makes one plan of all";
+    refused(
+        b"year|i:2024;leap|b:1;",
+        &format!(
+            "refused 3 at 0: a value begins with one of N b i d s a O r R; {said}
+  year|i:2024;leap|b:1...
+  ^
+"
+        ),
+    );
+    refused(
+        b"air|d:9.5;leap|b:1;",
+        &format!(
+            "refused 2 at 0: the text that begins here is not of the form a:COUNT:{{PAIRS}} with so many pairs; {said}
+  air|d:9.5;leap|b:1;
+  ^
+"
+        ),
+    );
+}
+
+#[test]
+fn a_newline_at_the_end() {
+    refused(
+        b"N;\n",
+        "refused 10 at 2: bytes follow the value; this is a newline at the end; without it: head -c 2 FILE
+  N;%0A
+    ^
+",
+    );
+    refused(
+        b"N;\r\n",
+        "refused 10 at 2: bytes follow the value; this is a newline at the end; without it: head -c 2 FILE
+  N;%0D%0A
+    ^
+",
+    );
+    refused(
+        b"N;;\n",
+        "refused 10 at 2: bytes follow the value\n  N;;%0A\n    ^\n",
+    );
+}
+
+/// A shell command, and what recognising tells to do about what it leaves in `$FILE`.
+const MENDED: [(&str, &str); 4] = [
+    ("cat $YEAR > $FILE; echo >> $FILE", "without it: "),
+    (
+        "printf '\\357\\273\\277' > $FILE; cat $YEAR >> $FILE",
+        "without it: ",
+    ),
+    ("gzip -c $YEAR > $FILE", "unpack it first: "),
+    ("base64 $YEAR > $FILE", "decode it first: "),
+];
+
+#[test]
+fn what_is_told_mends_it() {
+    let folder = Folder::new();
+    let file = folder.path("plan");
+    let shell = |script: &str| {
+        let mut bash = Command::new("bash");
+        bash.args(["-c", script])
+            .env("FILE", &file)
+            .env("YEAR", YEAR);
+        bash.output().expect("bash starts")
+    };
+    for (spoil, lead) in MENDED {
+        assert!(shell(spoil).status.success());
+        let error = run(["show", file.to_str().unwrap()]).error;
+        let first = error.lines().next().expect("a line");
+        let (_, told) = first.split_once(lead).expect("what to do");
+        let mended = shell(&told.replace("FILE", "$FILE")).stdout;
+        assert_eq!(mended, fs::read(YEAR).unwrap(), "{told}");
+    }
+}
