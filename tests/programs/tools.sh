@@ -47,7 +47,7 @@ missing rt 'It proves the library' all archive run
 missing cargo 'It builds the command' all run
 missing gcc 'It links the command' all run
 too_old rt 'rattle-kit-4 logic 1' 4
-too_old cargo 'cargo 1.87.0' 1.87.0
+too_old cargo 'cargo 1.88.0' 1.88.0
 version=$(sed -n 's/^version = "\(.*\)"$/\1/p' rust/Cargo.toml)
 first_line "error: tonschnecke@$version: the proved library is missing, $scratch/libtonschnecke.a: \`make archive\`" \
     env CARGO_TARGET_DIR="$scratch/cargo" TONSCHNECKE_LIB_DIR="$scratch" cargo build --quiet --manifest-path rust/tonschnecke/Cargo.toml

@@ -2,12 +2,16 @@
 
 use crate::failure::Failure;
 use crate::help;
-use crate::options::Given;
+use crate::options::{number, Given};
 use crate::output::Destination;
 use crate::pair::Pair;
 use std::ffi::{OsStr, OsString};
 use std::os::unix::ffi::OsStrExt;
 use std::path::PathBuf;
+use std::time::Duration;
+
+/// The seconds without `--wait`.
+const WAIT: usize = 10;
 
 #[derive(Debug)]
 pub enum Request {
@@ -28,6 +32,8 @@ pub struct Job {
     pub heading: bool,
     /// Whether an edit says what it did.
     pub report: bool,
+    /// How long to wait for somebody else who edits the file that is to be replaced.
+    pub wait: Duration,
 }
 
 #[derive(Debug, Clone)]
@@ -36,6 +42,13 @@ pub enum Service {
     Show { places: bool },
     Canonical,
     Insert(Pair),
+}
+
+impl Service {
+    /// Whether the result is a plan.
+    pub fn writes_plan(&self) -> bool {
+        matches!(self, Service::Canonical | Service::Insert(_))
+    }
 }
 
 pub fn parse(arguments: impl Iterator<Item = OsString>) -> Result<Request, Failure> {
@@ -88,6 +101,7 @@ fn jobs(
     }
     let output = Output::parse(&service, several, given)?;
     let quiet = output.edits && given.flag("--quiet");
+    let wait = wait(&service, given)?;
     if let Some(name) = given.left() {
         return Err(format!("{} takes no {name}", subcommand.display()));
     }
@@ -101,6 +115,7 @@ fn jobs(
                 destination,
                 file,
                 report: output.edits && !quiet,
+                wait,
             })
         })
         .collect()
@@ -118,6 +133,19 @@ fn service(subcommand: &OsStr, given: &mut Given) -> Result<Service, String> {
     }
 }
 
+fn wait(service: &Service, given: &mut Given) -> Result<Duration, String> {
+    let text = match service.writes_plan() {
+        true => given.take("--wait"),
+        false => None,
+    };
+    let seconds = match text {
+        Some(text) => number(&text)
+            .ok_or_else(|| format!("--wait {}: no number of 64 bits", text.display()))?,
+        None => WAIT,
+    };
+    Ok(Duration::from_secs(seconds as u64))
+}
+
 /// Where the results go, of all files.
 struct Output {
     file: Option<PathBuf>,
@@ -129,9 +157,8 @@ struct Output {
 
 impl Output {
     fn parse(service: &Service, several: bool, given: &mut Given) -> Result<Output, String> {
-        let writes_plan = matches!(service, Service::Canonical | Service::Insert(_));
-        let in_place = writes_plan && given.flag("--in-place");
-        let dry_run = writes_plan && given.flag("--dry-run");
+        let in_place = service.writes_plan() && given.flag("--in-place");
+        let dry_run = service.writes_plan() && given.flag("--dry-run");
         let file = given.take("-o").map(PathBuf::from);
         if in_place && file.is_some() {
             return Err("--in-place and -o exclude each other".into());

@@ -1,5 +1,6 @@
 //! Why the command ends without its result.
 
+use crate::signals;
 use std::io::{self, Write};
 use std::path::Path;
 
@@ -13,7 +14,9 @@ pub enum Failure {
     Trouble(String),
     /// The plan has no such path.
     Nowhere(String),
-    /// The reader of standard output went away: there is nobody to tell.
+    /// Somebody else is at the file; later it may go.
+    Busy(String),
+    /// The reader of the output went away: there is nobody to tell.
     Unread,
 }
 
@@ -41,7 +44,8 @@ impl Failure {
             ),
             Failure::Trouble(message) => (format!("tonschnecke: {message}\n"), 2),
             Failure::Nowhere(message) => (format!("tonschnecke: {message}\n"), 3),
-            Failure::Unread => (String::new(), 2),
+            Failure::Busy(message) => (format!("tonschnecke: {message}\n"), 4),
+            Failure::Unread => signals::end_by_broken_pipe(),
         };
         // Where standard error fails, the status is all that can still be told.
         let _ = io::stderr().write_all(message.as_bytes());

@@ -1,9 +1,13 @@
 //! The plan's bytes, from a file or standard input.
 
 use crate::failure::Failure;
-use std::fs::File;
+use crate::lock::identity;
+use std::ffi::OsStr;
+use std::fs::{self, File, Metadata};
 use std::io::{self, IsTerminal, Read, Write};
-use std::path::Path;
+use std::os::fd::AsFd;
+use std::os::unix::ffi::OsStrExt;
+use std::path::{Path, PathBuf};
 use tonschnecke::SOURCE_LIMIT;
 
 /// At most one byte more than the library takes: enough for it to refuse, and an endless pipe ends.
@@ -37,4 +41,34 @@ fn standard_input() -> impl Read {
         let _ = io::stderr().write_all(hint.as_bytes());
     }
     input
+}
+
+/// Whether the plan is read from the regular file that has this name, be it by another name.
+pub fn is_from(file: Option<&Path>, name: &Path) -> bool {
+    let (Ok(input), Ok(named)) = (metadata(file), fs::metadata(name)) else {
+        return false;
+    };
+    // One edited meanwhile is no longer the same file under the same name.
+    let same_name = || real_name(file).is_some_and(|real| Some(real) == real_name(Some(name)));
+    input.is_file() && (identity(&input) == identity(&named) || same_name())
+}
+
+fn metadata(file: Option<&Path>) -> io::Result<Metadata> {
+    match file {
+        Some(file) => fs::metadata(file),
+        None => File::from(io::stdin().as_fd().try_clone_to_owned()?).metadata(),
+    }
+}
+
+fn real_name(file: Option<&Path>) -> Option<PathBuf> {
+    match file {
+        Some(file) => fs::canonicalize(file).ok(),
+        None => {
+            let name = fs::read_link("/proc/self/fd/0").ok()?;
+            let bytes = name.as_os_str().as_bytes();
+            // What Linux adds once the file no longer has this name.
+            let bytes = bytes.strip_suffix(b" (deleted)").unwrap_or(bytes);
+            Some(OsStr::from_bytes(bytes).into())
+        }
+    }
 }

@@ -6,6 +6,7 @@ mod escape;
 mod failure;
 mod help;
 mod input;
+mod lock;
 mod meant;
 mod options;
 mod output;
@@ -15,10 +16,13 @@ mod refusal;
 mod replace;
 mod report;
 mod service;
+mod signals;
+mod target;
+mod temporary;
 
 use arguments::Request;
 use failure::Failure;
-use output::Destination;
+use output::Output;
 use std::env;
 use std::process::ExitCode;
 
@@ -39,7 +43,7 @@ fn main() -> ExitCode {
 }
 
 fn say(text: &str) -> Result<(), Failure> {
-    Destination::StandardOutput.write(|out| out.write_all(text.as_bytes()))
+    Output::standard().write(&[], |out| out.write_all(text.as_bytes()))
 }
 
 fn status(outcome: Result<(), Failure>) -> u8 {

@@ -5,8 +5,9 @@ use std::ffi::{OsStr, OsString};
 use std::os::unix::ffi::{OsStrExt, OsStringExt};
 
 /// Each option, and whether a value follows it.
-const OPTIONS: [(&str, bool); 24] = [
+const OPTIONS: [(&str, bool); 25] = [
     ("-o", true),
+    ("--wait", true),
     ("--in-place", false),
     ("--dry-run", false),
     ("--quiet", false),
@@ -138,4 +139,11 @@ fn parted(argument: &[u8]) -> (&[u8], Option<&[u8]>) {
         },
         _ => (argument, None),
     }
+}
+
+/// Digits alone: no sign.
+pub fn number(text: &OsStr) -> Option<usize> {
+    let text = text.to_str()?;
+    let digits = text.bytes().all(|byte| byte.is_ascii_digit());
+    text.parse().ok().filter(|_| digits)
 }

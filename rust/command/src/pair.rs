@@ -1,6 +1,6 @@
 //! The pair to put in, and where: as people type it.
 
-use crate::options::Given;
+use crate::options::{number, Given};
 use std::ffi::{OsStr, OsString};
 use std::os::unix::ffi::{OsStrExt, OsStringExt};
 use tonschnecke::{serialized, Key, Path};
@@ -105,13 +105,6 @@ fn integer(name: &str, text: &OsString) -> Result<Vec<u8>, String> {
     integer
         .map(serialized::integer)
         .ok_or_else(|| unfit(name, text, "no integer of 64 bits"))
-}
-
-/// Digits alone: no sign.
-fn number(text: &OsStr) -> Option<usize> {
-    let text = text.to_str()?;
-    let digits = text.bytes().all(|byte| byte.is_ascii_digit());
-    text.parse().ok().filter(|_| digits)
 }
 
 fn unfit(name: &str, text: &OsStr, message: &str) -> String {

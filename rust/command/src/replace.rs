@@ -1,57 +1,95 @@
 //! Replacing a file: a crash at any moment leaves the old content or the new, never a part.
 
+use crate::lock::{leads_to, lock};
 use crate::output::buffered;
-use std::fs::{self, File, Metadata, OpenOptions};
-use std::hash::{BuildHasher, RandomState};
-use std::io::{self, Write};
-use std::os::unix::fs::{fchown, MetadataExt, OpenOptionsExt};
-use std::path::{Path, PathBuf};
+use crate::target::folder;
+use crate::temporary::{self, Temporary};
+use std::fs::{File, Metadata};
+use std::io::{self, Read, Write};
+use std::os::unix::fs::{fchown, MetadataExt};
+use std::path::PathBuf;
+use std::time::Duration;
 
-/// Replaces the file, or the one that a symbolic link names, by what `fill` writes.
-pub fn replace(file: &Path, fill: impl FnOnce(&mut dyn Write) -> io::Result<()>) -> io::Result<()> {
-    let target = fs::canonicalize(file)?;
-    let metadata = fs::metadata(&target)?;
-    if !metadata.is_file() {
-        return Err(io::Error::other("not a regular file"));
+/// Why a file was not replaced.
+#[derive(Debug)]
+pub enum Unreplaced {
+    /// Somebody else held its lock for as long as was to be waited.
+    Locked(Duration),
+    /// Somebody else changed it since it was read.
+    Changed,
+    Trouble(io::Error),
+}
+
+impl From<io::Error> for Unreplaced {
+    fn from(error: io::Error) -> Self {
+        Unreplaced::Trouble(error)
     }
-    // Renaming needs no right to write to the old file, but replacing what it says should.
-    OpenOptions::new().write(true).open(&target)?;
-    let folder = target.parent().expect("a file stands in a folder");
-    // Opened before anything is written, so that only syncing itself can fail behind the renaming.
-    let open_folder = File::open(folder)?;
-    let temporary = temporary_name(folder);
-    let created = create(&temporary)?;
-    write_like(&metadata, created, fill)
-        .and_then(|()| fs::rename(&temporary, &target))
-        // The first error is the one to tell.
-        .inspect_err(|_| drop(fs::remove_file(&temporary)))?;
-    open_folder.sync_all()
 }
 
-/// A name that nobody can have taken on purpose: the hasher's keys are random.
-fn temporary_name(folder: &Path) -> PathBuf {
-    let random = RandomState::new().hash_one(0);
-    folder.join(format!(".tonschnecke-{random:016x}"))
+/// A file to be replaced, or made.
+#[derive(Debug)]
+pub struct Replacement {
+    /// No symbolic link.
+    pub name: PathBuf,
+    /// The plan that is read is this file: it was locked before that.
+    pub plan: Option<File>,
+    /// How long to wait for the lock of another file.
+    pub wait: Duration,
 }
 
-fn create(name: &Path) -> io::Result<File> {
-    OpenOptions::new()
-        .write(true)
-        .create_new(true)
-        .mode(0o600)
-        .open(name)
-}
-
-/// Writes what is to be read by the same people as the old file, and waits until the disk has it.
-fn write_like(
-    old: &Metadata,
-    created: File,
-    fill: impl FnOnce(&mut dyn Write) -> io::Result<()>,
-) -> io::Result<()> {
-    let new = created.metadata()?;
-    if (new.uid(), new.gid()) != (old.uid(), old.gid()) {
-        fchown(&created, Some(old.uid()), Some(old.gid()))?;
+impl Replacement {
+    /// Puts what `fill` writes in its place. `source` is the plan that was read.
+    pub fn write(
+        &self,
+        source: &[u8],
+        fill: impl FnOnce(&mut dyn Write) -> io::Result<()>,
+    ) -> Result<(), Unreplaced> {
+        let other = match &self.plan {
+            None if self.name.exists() => Some(lock(&self.name, self.wait)?),
+            _ => None,
+        };
+        let old = match self.plan.as_ref().or(other.as_ref()) {
+            Some(file) => Some(file.metadata()?),
+            None => None,
+        };
+        // Opened before anything is written, so that only syncing itself can fail behind the renaming.
+        let folder = File::open(folder(&self.name))?;
+        temporary::remove_left(&self.name);
+        let new = self.write_beside(old, fill)?;
+        if self.is_changed(source)? {
+            return Err(Unreplaced::Changed);
+        }
+        new.rename(&self.name)?;
+        Ok(folder.sync_all()?)
     }
-    created.set_permissions(old.permissions())?;
-    buffered(created, fill)?.sync_all()
+
+    /// Writes what is to be read by the same people as the old file, and waits until the disk has it.
+    fn write_beside(
+        &self,
+        old: Option<Metadata>,
+        fill: impl FnOnce(&mut dyn Write) -> io::Result<()>,
+    ) -> io::Result<Temporary> {
+        let mode = if old.is_some() { 0o600 } else { 0o666 };
+        let temporary = Temporary::create(&self.name, mode)?;
+        if let Some(old) = old {
+            let new = temporary.file.metadata()?;
+            if (new.uid(), new.gid()) != (old.uid(), old.gid()) {
+                fchown(&temporary.file, Some(old.uid()), Some(old.gid()))?;
+            }
+            temporary.file.set_permissions(old.permissions())?;
+        }
+        buffered(&temporary.file, fill)?.sync_all()?;
+        Ok(temporary)
+    }
+
+    /// Whether the plan is no longer the one that was read: not everybody asks for the lock.
+    fn is_changed(&self, source: &[u8]) -> io::Result<bool> {
+        let Some(plan) = &self.plan else {
+            return Ok(false);
+        };
+        let mut content = Vec::new();
+        plan.take(source.len() as u64 + 1)
+            .read_to_end(&mut content)?;
+        Ok(content != source || !leads_to(&self.name, plan)?)
+    }
 }

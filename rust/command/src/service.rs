@@ -2,69 +2,88 @@
 
 use crate::arguments::{Job, Service};
 use crate::failure::Failure;
-use crate::output::Destination;
+use crate::output::{Destination, Output};
 use crate::pair::{Array, Pair, Place};
 use crate::{input, refusal, report};
 use std::io::{self, Write};
 use tonschnecke::lent::Insertion;
 use tonschnecke::{Kind, Nowhere, Plan, Value};
 
-/// Nothing is opened for writing before the library has accepted.
+/// Nothing is written before the library has accepted.
 pub fn run(job: &Job) -> Result<(), Failure> {
-    perform(job).map_err(|failure| failure.of(job.file.as_deref()))
+    let of_file = |failure: Failure| failure.of(job.file.as_deref());
+    Task::start(job)
+        .and_then(|task| task.perform())
+        .map_err(of_file)
 }
 
-fn perform(job: &Job) -> Result<(), Failure> {
-    let source = input::read(job.file.as_deref())?;
-    let plan = Plan::read(&source[..]).map_err(|refused| refusal::of_plan(refused, &source))?;
-    match &job.service {
-        Service::Nodes => print(job, |out| lines(&plan, out)),
-        Service::Show { places: false } => print(job, |out| write!(out, "{plan}")),
-        Service::Show { places: true } => {
-            print(job, |out| write!(out, "{}", plan.tree().with_places()))
-        }
-        Service::Canonical => {
-            let canonical = plan.canonical();
-            write(job, &canonical, || report::of_canonical(&plan, &canonical))
-        }
-        Service::Insert(pair) => {
-            let insertion =
-                insertion(pair, &plan).map_err(|nowhere| Failure::Nowhere(nowhere.to_string()))?;
-            let new = plan
-                .insert(insertion)
-                .map_err(|refused| refusal::of_insertion(refused, insertion, &plan))?;
-            write(job, &new, || report::of_insertion(insertion, &plan, &new))
+/// A job whose plan was read.
+struct Task<'a> {
+    job: &'a Job,
+    output: Output<'a>,
+    plan: Plan,
+}
+
+impl<'a> Task<'a> {
+    /// The output is found, and if it is the plan's own file locked, before the plan is read.
+    fn start(job: &'a Job) -> Result<Self, Failure> {
+        let output = Output::find(job)?;
+        let source = input::read(job.file.as_deref())?;
+        let plan = Plan::read(&source[..]).map_err(|refused| refusal::of_plan(refused, &source))?;
+        Ok(Task { job, output, plan })
+    }
+
+    fn perform(&self) -> Result<(), Failure> {
+        let plan = &self.plan;
+        match &self.job.service {
+            Service::Nodes => self.print(|out| lines(plan, out)),
+            Service::Show { places: false } => self.print(|out| write!(out, "{plan}")),
+            Service::Show { places: true } => {
+                self.print(|out| write!(out, "{}", plan.tree().with_places()))
+            }
+            Service::Canonical => {
+                let canonical = plan.canonical();
+                self.write(&canonical, || report::of_canonical(plan, &canonical))
+            }
+            Service::Insert(pair) => {
+                let insertion = insertion(pair, plan)
+                    .map_err(|nowhere| Failure::Nowhere(nowhere.to_string()))?;
+                let new = plan
+                    .insert(insertion)
+                    .map_err(|refused| refusal::of_insertion(refused, insertion, plan))?;
+                self.write(&new, || report::of_insertion(insertion, plan, &new))
+            }
         }
     }
-}
 
-/// Prints lines, below the name of the plan's file where there are several.
-fn print(job: &Job, fill: impl FnOnce(&mut dyn Write) -> io::Result<()>) -> Result<(), Failure> {
-    job.destination.write(|out| {
-        if job.heading {
-            writeln!(out, "==> {} <==", input::name(job.file.as_deref()))?;
-        }
-        fill(out)
-    })
-}
-
-/// Writes the plan's bytes and nothing else, and says what was done.
-fn write(job: &Job, plan: &Plan, done: impl FnOnce() -> String) -> Result<(), Failure> {
-    let put = || {
-        print(job, |out| {
-            out.write_all(plan.bytes())?;
-            if job.heading {
-                writeln!(out)?;
+    /// Prints lines, below the name of the plan's file where there are several.
+    fn print(&self, fill: impl FnOnce(&mut dyn Write) -> io::Result<()>) -> Result<(), Failure> {
+        self.output.write(self.plan.bytes(), |out| {
+            if self.job.heading {
+                writeln!(out, "==> {} <==", input::name(self.job.file.as_deref()))?;
             }
-            Ok(())
+            fill(out)
         })
-    };
-    // A plan ends no line: on a terminal, what is said behind it would stand on its last one.
-    if let Destination::StandardOutput = job.destination {
-        report::say(job, done);
-        put()
-    } else {
-        put().map(|()| report::say(job, done))
+    }
+
+    /// Writes the new plan's bytes and nothing else, and says what was done.
+    fn write(&self, new: &Plan, done: impl FnOnce() -> String) -> Result<(), Failure> {
+        let put = || {
+            self.print(|out| {
+                out.write_all(new.bytes())?;
+                if self.job.heading {
+                    writeln!(out)?;
+                }
+                Ok(())
+            })
+        };
+        // A plan ends no line: on a terminal, what is said behind it would stand on its last one.
+        if let Destination::StandardOutput = self.job.destination {
+            report::say(self.job, done);
+            put()
+        } else {
+            put().map(|()| report::say(self.job, done))
+        }
     }
 }
 

@@ -36,7 +36,7 @@ fn of_all_is_given_in_each_way() {
             "{name}"
         );
     }
-    for status in 0..=3 {
+    for status in 0..=4 {
         assert!(overview.contains(&format!("\n  {status}  ")), "{status}");
     }
 }
@@ -58,11 +58,11 @@ fn of_a_subcommand_is_given_in_each_way() {
 const OPTIONS: [(&str, &str); 4] = [
     ("nodes", "-o"),
     ("show", "--places -o"),
-    ("canonical", "--dry-run --in-place --quiet -o"),
+    ("canonical", "--dry-run --in-place --quiet --wait -o"),
     (
         "insert",
         "--after --array --at --before --dry-run --false --float --in-place --int --int-key --key --node --null \
-         --quiet --string --string-key --true --value -o",
+         --quiet --string --string-key --true --value --wait -o",
     ),
 ];
 

@@ -1,9 +1,8 @@
 //! Replacing a plan's own file: whole or not at all.
 
-use crate::run::{is_root, names, run, run_bound, set_mode, Folder, Ran, PROGRAM, YEAR};
+use crate::run::{is_root, names, run, run_bound, set_mode, shell, Folder, Ran, FULL_DISK, YEAR};
 use std::fs;
 use std::os::unix::fs::{chown, symlink, MetadataExt};
-use std::os::unix::process::ExitStatusExt;
 use std::path::Path;
 use std::process::Command;
 
@@ -103,14 +102,9 @@ fn no_regular_file() {
         .status()
         .unwrap()
         .success());
-    let writer = Command::new("bash")
-        .args(["-c", "printf 'N;' > \"$0\""])
-        .arg(&fifo)
-        .spawn();
-    let ran = canonical(&fifo);
-    writer.unwrap().wait().unwrap();
     let name = fifo.display();
-    ran.fails(
+    // It is not even opened: nobody writes to it.
+    canonical(&fifo).fails(
         2,
         &format!("tonschnecke: cannot replace {name}: not a regular file\n"),
     );
@@ -166,32 +160,23 @@ fn not_permitted() {
     }
 }
 
-/// Runs it in a shell that lets no file grow beyond 1,024 bytes, with the plan of the year.
-fn cut_off(folder: &Folder, before: &str) -> (std::process::Output, std::path::PathBuf) {
-    let plan = folder.file("plan", fs::read(YEAR).unwrap());
-    let script = format!("{before} ulimit -f 1; exec \"$0\" canonical --in-place \"$1\"");
-    let output = Command::new("bash")
-        .args(["-c", &script, PROGRAM])
-        .arg(&plan)
-        .output();
-    (output.unwrap(), plan)
+#[test]
+fn missing() {
+    let folder = Folder::new();
+    let plan = folder.path("plan");
+    let reason = "No such file or directory (os error 2)";
+    let error = format!("cannot replace {}: {reason}", plan.display());
+    canonical(&plan).fails(2, &format!("tonschnecke: {error}\n"));
+    assert!(names(&folder.path("")).is_empty());
 }
 
 #[test]
 fn writing_fails_half_way() {
     let folder = Folder::new();
-    let (output, plan) = cut_off(&folder, "trap '' XFSZ;");
-    let name = plan.display();
-    let error = format!("tonschnecke: cannot replace {name}: File too large (os error 27)\n");
-    Ran::new(output).fails(2, &error);
-    assert_eq!(fs::read(&plan).unwrap(), fs::read(YEAR).unwrap());
+    let plan = folder.file("plan", fs::read(YEAR).unwrap());
+    let script = format!("{FULL_DISK} exec \"$0\" canonical --in-place plan");
+    let error = "tonschnecke: cannot replace plan: File too large (os error 27)\n";
+    Ran::new(shell(&folder, &script)).fails(2, error);
+    assert!(fs::read(&plan).unwrap() == fs::read(YEAR).unwrap());
     assert_eq!(names(&folder.path("")), ["plan"]);
-}
-
-#[test]
-fn killed_half_way() {
-    let folder = Folder::new();
-    let (output, plan) = cut_off(&folder, "ulimit -c 0;");
-    assert_eq!(output.status.signal(), Some(25), "SIGXFSZ");
-    assert_eq!(fs::read(&plan).unwrap(), fs::read(YEAR).unwrap());
 }

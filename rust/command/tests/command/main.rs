@@ -3,7 +3,9 @@
 mod files;
 mod help;
 mod in_place;
+mod interrupted;
 mod meant;
+mod output;
 mod pairs;
 mod paths;
 mod recognised;
@@ -13,4 +15,5 @@ mod run;
 mod services;
 mod several;
 mod terminal;
+mod together;
 mod usage;

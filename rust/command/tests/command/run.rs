@@ -5,7 +5,7 @@ use std::fs::{self, Permissions};
 use std::io::{ErrorKind, Write};
 use std::os::unix::fs::{MetadataExt, PermissionsExt};
 use std::path::{Path, PathBuf};
-use std::process::{Command, Output, Stdio};
+use std::process::{Child, ChildStdin, Command, Output, Stdio};
 use std::sync::atomic::{AtomicU32, Ordering};
 
 pub const PROGRAM: &str = env!("CARGO_BIN_EXE_tonschnecke");
@@ -93,6 +93,43 @@ pub fn run_bound<S: AsRef<OsStr>>(folder: &Folder, arguments: impl IntoIterator<
         .stdin(Stdio::null())
         .output();
     Ran::new(output.expect("setpriv starts"))
+}
+
+/// Runs a script with the command as `$0`, in the folder.
+pub fn shell(folder: &Folder, script: &str) -> Output {
+    let mut bash = Command::new("bash");
+    bash.args(["-c", script, PROGRAM]).stdin(Stdio::null());
+    bash.current_dir(folder.path(""))
+        .output()
+        .expect("bash starts")
+}
+
+/// As on a full disk: no file grows beyond 1,024 bytes.
+pub const FULL_DISK: &str = "trap '' XFSZ; ulimit -f 1;";
+
+/// A shell that sends signals at once.
+pub struct Sender(Child, ChildStdin);
+
+impl Sender {
+    pub fn new() -> Sender {
+        let script = "while read -r signal id; do kill -s $signal $id; done 2>&-";
+        let mut shell = Command::new("bash")
+            .args(["-c", script])
+            .stdin(Stdio::piped())
+            .spawn()
+            .unwrap();
+        let input = shell.stdin.take().unwrap();
+        Sender(shell, input)
+    }
+
+    pub fn send(&mut self, signal: &str, child: &Child) {
+        writeln!(self.1, "{signal} {}", child.id()).unwrap();
+    }
+
+    pub fn end(mut self) {
+        drop(self.1);
+        self.0.wait().unwrap();
+    }
 }
 
 /// A folder for one test, gone with it.

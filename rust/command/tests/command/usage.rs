@@ -3,7 +3,7 @@
 use crate::run::{command, pipe, run, Folder, Ran, YEAR};
 
 /// Arguments, parted by spaces, and what is said of them.
-const MISTAKES: [(&str, &str); 38] = [
+const MISTAKES: [(&str, &str); 40] = [
     ("", "a subcommand is missing"),
     ("--", "a subcommand is missing"),
     ("list", "unknown subcommand list"),
@@ -37,6 +37,8 @@ const MISTAKES: [(&str, &str); 38] = [
     ("nodes --in-place a", "nodes takes no --in-place"),
     ("canonical --array /", "canonical takes no --array"),
     ("nodes --key i:1;", "nodes takes no --key"),
+    ("show a -o b --wait 1", "show takes no --wait"),
+    ("nodes --wait=x", "nodes takes no --wait"),
     ("canonical --in-place", "--in-place needs a FILE"),
     ("canonical --in-place -", "--in-place needs a FILE"),
     (
@@ -78,13 +80,15 @@ const MISTAKES: [(&str, &str); 38] = [
 ];
 
 /// An option of inserting, its unfit value, and what is said of them.
-const UNFIT: [(&str, &str, &str); 15] = [
+const UNFIT: [(&str, &str, &str); 17] = [
     ("--node", "x", "no number of 64 bits"),
     ("--node", "-1", "no number of 64 bits"),
     ("--node", "", "no number of 64 bits"),
     ("--at", "+1", "neither a number of 64 bits nor the word end"),
     ("--at", "18446744073709551616", "neither a number of 64 bits nor the word end"),
     ("--at", "End", "neither a number of 64 bits nor the word end"),
+    ("--wait", "1.5", "no number of 64 bits"),
+    ("--wait", "-1", "no number of 64 bits"),
     ("--before", "", "a path has no empty component; the empty string key is \"\""),
     ("--after", "%", "in a path, two hexadecimal digits follow each %"),
     ("--int-key", "29x", "no integer of 64 bits"),
@@ -117,6 +121,7 @@ fn unfit_values_are_told() {
     for (option, value, message) in UNFIT {
         let fit: &[&str] = match option {
             "--at" | "--before" | "--after" => &["--node=0", "--key=i:1;", "--null"],
+            "--wait" => &["--node=0", "--at=0", "--key=i:1;", "--null"],
             "--int-key" => &["--node=0", "--at=0", "--null"],
             "--int" => &["--node=0", "--at=0", "--key=i:1;"],
             _ => &["--at=0", "--key=i:1;", "--null"],

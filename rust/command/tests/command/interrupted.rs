@@ -1,0 +1,221 @@
+//! Ended half way: the plan is whole, and nothing is left beside it.
+
+use crate::run::{command, names, shell, Folder, Ran, Sender, PROGRAM, YEAR};
+use std::fs::{self, File};
+use std::os::unix::process::ExitStatusExt;
+use std::process::{Command, ExitStatus};
+use std::thread::sleep;
+use std::time::{Duration, Instant};
+
+const INTERRUPT: (&str, i32) = ("INT", 2);
+const TERMINATE: (&str, i32) = ("TERM", 15);
+const HANG_UP: (&str, i32) = ("HUP", 1);
+const KILL: (&str, i32) = ("KILL", 9);
+
+fn insert(folder: &Folder) -> Command {
+    let mut insert = command(["insert", "plan", "--quiet", "--in-place"]);
+    insert.args(["--array=/months/2", "--at=end", "--key=i:29;", "--value=N;"]);
+    insert.current_dir(folder.path(""));
+    insert
+}
+
+/// The year's plan, and what it is with the day put in.
+fn year() -> (Folder, [Vec<u8>; 2]) {
+    let folder = Folder::new();
+    let old = fs::read(YEAR).unwrap();
+    let plan = folder.file("plan", &old);
+    assert!(insert(&folder).status().unwrap().success());
+    let new = fs::read(&plan).unwrap();
+    assert_ne!(old, new);
+    (folder, [old, new])
+}
+
+/// How long it takes when it is let be.
+fn duration() -> Duration {
+    let (folder, [old, _]) = year();
+    folder.file("plan", old);
+    let start = Instant::now();
+    assert!(insert(&folder).status().unwrap().success());
+    start.elapsed()
+}
+
+/// Ends it at 100 moments of its life, and has each outcome looked at.
+fn ended_by(signal: (&str, i32), look: impl Fn(&Folder)) {
+    let mut sender = Sender::new();
+    let (folder, [old, new]) = year();
+    let step = duration() / 70;
+    let mut ended = 0;
+    for moment in 0..100 {
+        folder.file("plan", &old);
+        let mut child = insert(&folder).spawn().unwrap();
+        sleep(step * moment);
+        sender.send(signal.0, &child);
+        let status = child.wait().unwrap();
+        ended += i32::from(status.signal() == Some(signal.1));
+        assert!(status.success() || status.signal() == Some(signal.1));
+        let left = fs::read(folder.path("plan")).unwrap();
+        assert!(left == new || left == old && !status.success());
+        look(&folder);
+    }
+    sender.end();
+    assert!(ended > 0, "the signal was always late");
+}
+
+fn nothing_is_left(folder: &Folder) {
+    assert_eq!(names(&folder.path("")), ["plan"]);
+}
+
+#[test]
+fn by_control_c() {
+    ended_by(INTERRUPT, nothing_is_left);
+}
+
+#[test]
+fn by_terminating() {
+    ended_by(TERMINATE, nothing_is_left);
+}
+
+#[test]
+fn by_hanging_up() {
+    ended_by(HANG_UP, nothing_is_left);
+}
+
+fn canonical(folder: &Folder) -> ExitStatus {
+    command(["canonical", "plan", "--quiet", "--in-place"])
+        .current_dir(folder.path(""))
+        .status()
+        .unwrap()
+}
+
+#[test]
+fn by_killing() {
+    ended_by(KILL, |folder| {
+        assert!(canonical(folder).success());
+        nothing_is_left(folder);
+    });
+}
+
+/// Killed by the signal SIGXFSZ with half of the plan written.
+fn killed_half_way(folder: &Folder, arguments: &str) {
+    let script = format!("ulimit -c 0; ulimit -f 1; exec \"$0\" {arguments}");
+    let output = shell(folder, &script);
+    assert_eq!(output.status.signal(), Some(25), "SIGXFSZ");
+}
+
+#[test]
+fn what_was_left_is_removed() {
+    for name in ["plan", "new", &"n".repeat(255)] {
+        let folder = Folder::new();
+        folder.file("plan", fs::read(YEAR).unwrap());
+        killed_half_way(&folder, &format!("canonical plan -o {name}"));
+        assert!(fs::read(folder.path("plan")).unwrap() == fs::read(YEAR).unwrap());
+        let left = names(&folder.path(""));
+        let start = format!(".{}.tonschnecke-", &name[..name.len().min(200)]);
+        assert!(left.len() == 2 && left[0].starts_with(&start), "{left:?}");
+        let output = shell(&folder, &format!("exec \"$0\" canonical plan -o {name}"));
+        Ran::new(output).gives("");
+        let mut after = vec![name, "plan"];
+        after.sort();
+        after.dedup();
+        assert_eq!(names(&folder.path("")), after);
+    }
+}
+
+#[test]
+fn what_somebody_uses_is_not_removed() {
+    let folder = Folder::new();
+    folder.file("plan", "N;");
+    let used = folder.file(".plan.tonschnecke-0123456789abcdef", "");
+    let lock = File::open(&used).unwrap();
+    lock.lock().unwrap();
+    let others = [
+        ".next.tonschnecke-0123456789abcdef",
+        ".plan.tonschnecke-0123456789abcde",
+        ".plan.tonschnecke-0123456789abcdeF",
+        ".plan.tonschnecke-0123456789abcdef0",
+        "plan.tonschnecke-0123456789abcdef",
+    ];
+    for name in others {
+        folder.file(name, "");
+    }
+    folder.folder(".plan.tonschnecke-fedcba9876543210");
+    let before = names(&folder.path(""));
+    assert!(canonical(&folder).success());
+    assert_eq!(names(&folder.path("")), before);
+    lock.unlock().unwrap();
+    assert!(canonical(&folder).success());
+    assert!(!used.exists());
+    assert_eq!(names(&folder.path("")).len(), before.len() - 1);
+}
+
+#[test]
+fn while_it_waits() {
+    let mut sender = Sender::new();
+    let (folder, _) = year();
+    let lock = File::open(folder.path("plan")).unwrap();
+    lock.lock().unwrap();
+    for (name, number) in [INTERRUPT, TERMINATE, HANG_UP] {
+        let mut child = insert(&folder).spawn().unwrap();
+        sleep(Duration::from_millis(100));
+        assert_eq!(child.try_wait().unwrap(), None);
+        sender.send(name, &child);
+        assert_eq!(child.wait().unwrap().signal(), Some(number));
+    }
+    sender.end();
+}
+
+#[test]
+fn ignored_signals_stay_ignored() {
+    let mut sender = Sender::new();
+    let (folder, [old, new]) = year();
+    let plan = folder.path("plan");
+    for (name, _) in [INTERRUPT, TERMINATE, HANG_UP] {
+        folder.file("plan", &old);
+        let lock = File::open(&plan).unwrap();
+        lock.lock().unwrap();
+        let script = format!("trap '' {name}; exec \"$@\"");
+        let mut ignoring = Command::new("bash");
+        ignoring.args(["-c", &script, "bash", PROGRAM]);
+        ignoring.args(insert(&folder).get_args());
+        let mut child = ignoring.current_dir(folder.path("")).spawn().unwrap();
+        sleep(Duration::from_millis(200));
+        assert_eq!(child.try_wait().unwrap(), None);
+        lock.unlock().unwrap();
+        let status = loop {
+            sender.send(name, &child);
+            match child.try_wait().unwrap() {
+                Some(status) => break status,
+                None => sleep(Duration::from_micros(50)),
+            }
+        };
+        assert!(status.success(), "{name}: {status}");
+        assert!(fs::read(&plan).unwrap() == new);
+        nothing_is_left(&folder);
+    }
+    sender.end();
+}
+
+/// A plan whose tree is longer than any pipe.
+fn long_tree() -> String {
+    let (open, close) = ("a:1:{i:0;".repeat(62), "}".repeat(62));
+    let references: String = (1..5400).map(|key| format!("i:{key};R:64;")).collect();
+    format!("a:5400:{{i:0;{open}N;{close}{references}}}")
+}
+
+#[test]
+fn by_a_reader_that_goes_away() {
+    let folder = Folder::new();
+    folder.file("plan", long_tree());
+    for script in [
+        "\"$0\" show plan | head -n 1; echo ${PIPESTATUS[0]}",
+        "\"$0\" show plan -o /dev/stdout | head -n 1; echo ${PIPESTATUS[0]}",
+        "mkfifo fifo; head -n 1 fifo & \"$0\" show plan -o fifo; echo $?; wait",
+    ] {
+        let ran = Ran::new(shell(&folder, script));
+        assert_eq!((ran.status, ran.error.as_str()), (Some(0), ""), "{script}");
+        let out = String::from_utf8(ran.out).unwrap();
+        let mut lines: Vec<&str> = out.lines().collect();
+        lines.sort();
+        assert_eq!(lines, ["/: array of 5400", "141"], "{script}");
+    }
+}
