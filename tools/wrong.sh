@@ -25,10 +25,9 @@ apply() { # CRATE EDIT
         'old: '*) old=${line#old: } ;;
         'new:'*)
             line=${line#new:}
+            [ "$(grep -oF -e "$old" "$file" | wc -l)" -eq 1 ] || return 1
             text=$(cat "$file" && echo .)
-            [ "${text#*"$old"}" != "$text" ] || return 1
-            [ "${text#*"$old"*"$old"}" = "$text" ] || return 1
-            printf '%s' "${text%%"$old"*}${line# }${text#*"$old"}" | sed '$d' >"$file"
+            printf '%s' "${text/"$old"/"${line# }"}" | sed '$d' >"$file"
             ;;
         esac
     done <"$2"
@@ -38,10 +37,10 @@ check() { # CRATE
     (cd "$copy" && rt dev "$1") >"$log" 2>&1
 }
 
-# The copy of a crate is the tree's again.
-restore() { # CRATE
-    rm -rf "$copy/crates/$1"
-    cp -a "crates/$1" "$copy/crates/$1"
+# What an edit changed in the copy of its crate is the tree's again.
+restore() { # CRATE EDIT
+    local file
+    while IFS= read -r file; do cp -p "crates/$1/$file" "$copy/crates/$1/$file"; done < <(sed -n 's/^file: //p' "$2")
 }
 
 try() { # CRATE EDIT
@@ -50,7 +49,7 @@ try() { # CRATE EDIT
     if ! apply "$1" "$2"; then
         echo "$name: BAD EDIT: an 'old:' text does not stand exactly once in its file"
     elif [ $fit = yes ]; then
-        restore "$1"
+        restore "$1" "$2"
         return
     elif check "$1"; then
         echo "$name: NOT REFUSED"
@@ -59,11 +58,11 @@ try() { # CRATE EDIT
     else
         first=$(grep -m 1 -o '^[^ ]*: error: `[^`]*`' "$log" | sed 's|.*/crates/[^/]*/||') || true
         echo "$name: refused ($((SECONDS - began)) s) $first"
-        restore "$1"
+        restore "$1" "$2"
         return
     fi
     failed=$((failed + 1))
-    restore "$1"
+    restore "$1" "$2"
 }
 
 mkdir -p "$copy/target"
