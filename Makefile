@@ -11,6 +11,8 @@
 SHELL := /bin/bash
 BUILD := $(CURDIR)/build
 ARCHIVE := $(BUILD)/libtonschnecke.a
+PROVED := $(BUILD)/proved.a
+COMPILE := gcc -std=c99 -O2 -fPIC -Wall -Wextra -Werror -pedantic -Iinclude
 CARGO := CARGO_TARGET_DIR=$(BUILD)/cargo TONSCHNECKE_LIB_DIR=$(BUILD) cargo
 LIBRARIES := $(patsubst crates/%/src/lib.rt,%,$(wildcard crates/*/src/lib.rt))
 SOURCES = $(wildcard $(foreach part,src specs proofs,$(LIBRARIES:%=crates/%/$(part))))
@@ -30,21 +32,30 @@ all: command programs
 needed:
 	@tools/need.sh rt cargo gcc
 
-# what C and Rust link: every library proved
+# what C and Rust link: every library proved, and what is C beside it
 archive: $(ARCHIVE)
 
+$(ARCHIVE): $(PROVED) $(BUILD)/sources-c
+	@rm -rf $(BUILD)/c && mkdir $(BUILD)/c
+	@for file in c/*.c; do $(COMPILE) -c $$file -o $(BUILD)/$${file%.c}.o || exit 1; done
+	@cp $(PROVED) $@
+	@ar rcs $@ $(BUILD)/c/*.o
+
 # rt staticlib proves what tonschnecke stands on one crate at a time, rt check several at once
-$(ARCHIVE): $(BUILD)/sources
+$(PROVED): $(BUILD)/sources
 	@echo 'Proving the library, crate by crate: two to three minutes from nothing on two cores. build/prove.log has the details.'
 	@tools/rt.sh build/prove.log check $(filter-out tonschnecke,$(LIBRARIES))
 	@tools/rt.sh build/archive.log staticlib tonschnecke
 	@cp target/staticlib/libtonschnecke.a $@
 
-# the kit and the sums of the libraries' files: written anew only where something changed, and then the archive is too old
-$(BUILD)/sources: always
-	@tools/need.sh rt
+# the kit or the compiler, and the sums of what it gets: written anew only where something changed, and then what is made of it is
+# too old
+$(BUILD)/sources: SUMS = rt version; sha256sum crates.txt; find $(SOURCES) -type f -exec sha256sum {} + | sort -k 2
+$(BUILD)/sources-c: SUMS = gcc --version; echo '$(COMPILE)'; sha256sum c/*.c include/tonschnecke.h
+$(BUILD)/sources $(BUILD)/sources-c: always
+	@tools/need.sh rt gcc
 	@mkdir -p $(BUILD)
-	@{ rt version; sha256sum crates.txt; find $(SOURCES) -type f -exec sha256sum {} + | sort -k 2; } > $@.new
+	@{ $(SUMS); } > $@.new
 	@cmp -s $@.new $@ || cp $@.new $@
 
 # the archive inside a program for users
@@ -81,7 +92,7 @@ test: needed
 	rt fmt --check
 	@echo 'Proving every crate from nothing and trying every edit: twelve to fifteen minutes on two cores. build/ci.log has the details.'
 	@RT_JOBS=$(JOBS) tools/rt.sh build/ci.log ci || { tail -n 1 build/ci.log; exit 1; }
-	@rm -f $(ARCHIVE)
+	@rm -f $(PROVED)
 	$(MAKE) --no-print-directory compare
 	@tail -n 1 build/ci.log
 

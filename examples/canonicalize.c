@@ -11,8 +11,8 @@ static void show(const char *source, size_t size, size_t room)
     uint64_t table[CAPACITY * TON_NODE_WORDS];
     uint8_t out[100] = {0};
     ton_writing w = ton_canonicalize((const uint8_t *)source, size, table, CAPACITY * TON_NODE_WORDS, out, room);
-    if (w.code != 0) {
-        printf("refused %" PRIu64 " at %" PRIu64 "\n", w.code, w.at);
+    if (w.code != TON_ACCEPTED) {
+        printf("refused %" PRIu64 " at %" PRIu64 ": %s\n", w.code, w.at, ton_message(w.code));
         return;
     }
     printf("%" PRIu64 " bytes: %.*s\n", w.length, (int)w.length, (const char *)out);
@@ -28,7 +28,8 @@ int main(void)
     show(plan, sizeof plan - 1, 29);
     show(damaged, sizeof damaged - 1, sizeof damaged - 1);
     /* a pointer may be null where its length is 0 */
+    uint64_t table[TON_NODE_WORDS];
     printf("with no output: refused %" PRIu64 "\n",
-           ton_canonicalize((const uint8_t *)"N;", 2, (uint64_t[TON_NODE_WORDS]){0}, TON_NODE_WORDS, NULL, 0).code);
+           ton_canonicalize((const uint8_t *)"N;", 2, table, TON_NODE_WORDS, NULL, 0).code);
     return 0;
 }

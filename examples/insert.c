@@ -13,8 +13,8 @@ static void show(const char *source, size_t node, size_t place, const char *key,
     uint8_t out[100] = {0};
     ton_writing w = ton_insert((const uint8_t *)source, strlen(source), node, place, (const uint8_t *)key, strlen(key),
                                (const uint8_t *)value, strlen(value), table, CAPACITY * TON_NODE_WORDS, out, room);
-    if (w.code != 0) {
-        printf("refused %" PRIu64 " at %" PRIu64 "\n", w.code, w.at);
+    if (w.code != TON_ACCEPTED) {
+        printf("refused %" PRIu64 " at %" PRIu64 ": %s\n", w.code, w.at, ton_message(w.code));
         return;
     }
     printf("%" PRIu64 " bytes: %.*s\n", w.length, (int)w.length, (const char *)out);

@@ -10,8 +10,8 @@ static void show(const char *source, size_t size)
 {
     uint64_t table[CAPACITY * TON_NODE_WORDS];
     ton_reading r = ton_read((const uint8_t *)source, size, table, CAPACITY * TON_NODE_WORDS);
-    if (r.code != 0) {
-        printf("refused %" PRIu64 " at %" PRIu64 "\n", r.code, r.at);
+    if (r.code != TON_ACCEPTED) {
+        printf("refused %" PRIu64 " at %" PRIu64 ": %s\n", r.code, r.at, ton_message(r.code));
         return;
     }
     printf("%" PRIu64 " nodes, %" PRIu64 " ordinals\n", r.nodes, r.ordinals);

@@ -24,7 +24,7 @@ for tool in "$@"; do
     case $tool in
         rt) need rt 5 'It proves the library and compiles it: put the folder bin/ of the Rattle kit, rattle-kit-5, on the PATH.' ;;
         cargo) need cargo "$rust" "It builds the command and the tests: install Rust $rust or newer, as https://rustup.rs tells." ;;
-        gcc) need gcc 0 'It links the command and compiles the examples in C: apt-get install gcc libc6-dev' ;;
+        gcc) need gcc 0 'It compiles what of the library is C, and links the command: apt-get install gcc libc6-dev' ;;
     esac
 done
 exit "$status"

@@ -5,11 +5,15 @@ cd "$(dirname "$0")/../.."
 scratch=$(mktemp -d)
 trap 'rm -rf "$scratch"' EXIT
 
-# What is built needs no prover to be installed.
+# What is built needs neither prover nor compiler to be installed.
 mkdir "$scratch/bin"
-printf '#!/bin/sh\necho "rt was run: $*" >&2\nexit 1\n' > "$scratch/bin/rt"
-chmod +x "$scratch/bin/rt"
-PATH=$scratch/bin:$PATH
+for tool in rt cargo gcc ar; do
+    printf '#!/bin/sh\necho "%s was run: $*" >&2\nexit 1\n' "$tool" > "$scratch/bin/$tool"
+    chmod +x "$scratch/bin/$tool"
+done
+make_alone() {
+    PATH=$scratch/bin:$PATH make --silent "$@"
+}
 
 # The files below a folder, on one line.
 files() {
@@ -27,15 +31,15 @@ equal() {
 all='./bin/tonschnecke ./include/tonschnecke.h ./lib/libtonschnecke.a ./lib/pkgconfig/tonschnecke.pc '
 
 # To be packed: below another root, but for its place.
-make --silent install PREFIX=/opt/ton DESTDIR="$scratch/stage"
+make_alone install PREFIX=/opt/ton DESTDIR="$scratch/stage"
 equal 'files to be packed' "$(files "$scratch/stage/opt/ton")" "$all"
 equal 'prefix in what is packed' "$(sed -n 's/^prefix=//p' "$scratch/stage/opt/ton/lib/pkgconfig/tonschnecke.pc")" /opt/ton
-make --silent uninstall PREFIX=/opt/ton DESTDIR="$scratch/stage"
+make_alone uninstall PREFIX=/opt/ton DESTDIR="$scratch/stage"
 equal 'files left of what was packed' "$(files "$scratch/stage")" ''
 
 # To be used: only what is installed, from another folder.
 prefix="$scratch/prefix"
-make --silent install PREFIX="$prefix" DESTDIR=
+make_alone install PREFIX="$prefix" DESTDIR=
 equal 'files' "$(files "$prefix")" "$all"
 pc="$prefix/lib/pkgconfig/tonschnecke.pc"
 
@@ -65,6 +69,6 @@ cp examples/insert.c "$scratch"
 printf 'a:3:{i:0;d:1.5;i:1;d:2.5;i:2;R:3;}' > "$scratch/plan"
 "$prefix/bin/tonschnecke" insert "$scratch/plan" --quiet --in-place --array / --at 1 --key 'i:59;' --value 'd:2;'
 equal 'a pair inserted by the command' "$(cat "$scratch/plan")" 'a:4:{i:0;d:1.5;i:59;d:2;i:1;d:2.5;i:2;R:4;}'
-make --silent uninstall PREFIX="$prefix" DESTDIR=
+make_alone uninstall PREFIX="$prefix" DESTDIR=
 equal 'files left' "$(files "$prefix")" ''
 echo 'install: as a user needs it'

@@ -1,6 +1,6 @@
 #!/usr/bin/env bash
 # What `make` does and when, and what it says where something fails: in a small project, with an rt and a cargo that only
-# note their words and do as they are told.
+# note their words and do as they are told. What is C there is compiled.
 set -eu
 cd "$(dirname "$0")/../.."
 scratch=$(mktemp -d)
@@ -14,7 +14,9 @@ cat > "$scratch/bin/rt" <<'END'
 [ "${1#--}" = version ] || echo "rt $1" >> calls
 case $1 in
     version | --version) echo rattle-kit-5 ;;
-    staticlib) mkdir -p target/staticlib && cat crates/*/src/* > target/staticlib/libtonschnecke.a ;;
+    staticlib)
+        mkdir -p target/staticlib && cd target/staticlib && cat ../../crates/*/src/* > tonschnecke.o
+        rm -f libtonschnecke.a && ar rc libtonschnecke.a tonschnecke.o ;;
     check | ci)
         echo 'fn of_a_crate: proved'
         [ ! -e unproved ] || echo 'of_a_crate.rt:1:1: error: not so'
@@ -35,11 +37,13 @@ chmod +x "$scratch/bin/rt" "$scratch/bin/cargo"
 PATH=$scratch/bin:$PATH
 
 project=$scratch/project
-mkdir -p "$project"/crates/{tonschnecke,format,nodes}/src "$project"/crates/format/{proofs,must-fail} "$project"/{examples,rust,tests/programs}
+mkdir -p "$project"/crates/{tonschnecke,format,nodes}/src "$project"/crates/format/{proofs,must-fail} "$project"/{c,include,examples,rust,tests/programs}
 cp -r Makefile tools "$project"
 cp rust/Cargo.toml "$project/rust"
 cd "$project"
 echo library | tee crates/{tonschnecke,format}/src/lib.rt crates/format/proofs/Lib.antt > crates/nodes/src/main.rt
+echo '#define CODE 7' > include/tonschnecke.h
+printf '#include "tonschnecke.h"\nextern int ton_code;\nint ton_code = CODE;\n' > c/code.c
 printf 'format:\ntonschnecke: format\nnodes: format\n' > crates.txt
 printf '#!/bin/sh\necho "the main job"\n' > examples/run.sh
 printf '#!/bin/sh\n' > tests/programs/none.sh
@@ -66,9 +70,20 @@ last() {
     printf '%s\n' "$printed" | tail -n "$1" | head -n 1
 }
 
+# Is the archive made of what rt made and of what is C: why.
+expect_archive() {
+    equal "$1, what is proved in the archive" "$(ar p build/libtonschnecke.a tonschnecke.o)" "$(cat target/staticlib/tonschnecke.o)"
+    mkdir compiled
+    for file in c/*.c; do gcc -std=c99 -O2 -fPIC -Iinclude -c "$file" -o "compiled/$(basename "$file" .c).o"; done
+    equal "$1, the archive" "$(ar t build/libtonschnecke.a)" $'tonschnecke.o\n'"$(cd compiled && ls)"
+    for object in compiled/*; do ar p build/libtonschnecke.a "$(basename "$object")" | cmp - "$object"; done
+    rm -r compiled
+}
+
 expect 'from nothing' run 0 'check staticlib '
 equal 'lines before the main job' "$(printf '%s\n' "$printed" | tail -n +2)" $'rt: a crate, in some seconds\nthe main job'
 equal 'the log' "$(cat build/prove.log)" $'fn of_a_crate: proved\nrt: a crate, in some seconds'
+expect_archive 'from nothing'
 expect 'nothing changed' run 0 ''
 equal 'nothing changed, printed' "$printed" 'the main job'
 expect 'the programs, which are missing still' all 0 'check '
@@ -89,6 +104,29 @@ echo edit > crates/format/must-fail/an.edit
 echo changed > crates/nodes/src/main.rt
 expect 'what the archive is not made of' run 0 ''
 
+# what is C proves nothing
+echo '#define CODE 8' > include/tonschnecke.h
+expect 'a changed header' run 0 ''
+equal 'a changed header, printed' "$printed" 'the main job'
+expect_archive 'a changed header'
+sed 's/ton_code/ton_other/' c/code.c > c/other.c
+expect 'a new file of C' run 0 ''
+expect_archive 'a new file of C'
+touch -d '1 hour ago' c/code.c
+mv c/code.c c/other.c
+expect 'a removed file of C, another changed and old' run 0 ''
+expect_archive 'a removed file of C, another changed and old'
+touch c/other.c build/marker
+expect 'a file of C as it was' run 0 ''
+equal 'a file of C as it was, what is built' "$(find build -newer build/marker -name '*.a')" ''
+# before the other, which is compiled
+echo 'extern int ton_bad' > c/bad.c
+for time in first second; do
+    expect "wrong C, the $time time" run 2 ''
+    equal "wrong C, the $time time, the error" "$(printf '%s\n' "$printed" | grep -c '^c/bad.c:1:.*error')" 1
+done
+rm c/bad.c
+
 touch unproved
 expect 'a broken proof that nothing asks for' run 0 ''
 echo changed > crates/format/src/lib.rt
@@ -104,7 +142,7 @@ expect 'the proof repaired' run 0 'check staticlib '
 echo old > build/libtonschnecke.a
 expect 'the gate' test 0 'fmt ci check staticlib check '
 equal 'the gate, its verdict' "$(last 1)" '7 passed, 0 failed'
-equal 'the gate, its archive' "$(cat build/libtonschnecke.a)" "$(cat target/staticlib/libtonschnecke.a)"
+expect_archive 'the gate'
 touch failing
 expect 'the gate with a failing test' test 2 'fmt ci check staticlib check '
 equal 'the gate with a failing test, its verdict' "$(printf '%s\n' "$printed" | grep -c ' passed, ')" 0

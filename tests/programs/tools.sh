@@ -45,7 +45,7 @@ too_old() {
 
 missing rt 'It proves the library' all archive run
 missing cargo 'It builds the command' all run
-missing gcc 'It links the command' all run
+missing gcc 'It compiles what of the library is C' all archive run
 too_old rt 'rattle-kit-4 logic 1' 4
 too_old cargo 'cargo 1.88.0' 1.88.0
 version=$(sed -n 's/^version = "\(.*\)"$/\1/p' rust/Cargo.toml)

@@ -1,6 +1,7 @@
 //! The archive under test, called through the wrapper that users have; its answers as numbers.
 
 use crate::call::{Lent, Place};
+use std::ffi::CString;
 use tonschnecke::lent::{self, Insertion};
 use tonschnecke::Refusal;
 
@@ -53,6 +54,12 @@ pub fn insert(texts: Lent, place: Place, table: &mut [u64], out: &mut [u8]) -> W
         value: texts.value,
     };
     writing(lent::insert(texts.source, insertion, table, out))
+}
+
+/// Where the library says that a path without NUL bytes leads.
+pub fn find(source: &[u8], table: &[u64], path: &[u8]) -> Option<usize> {
+    let path = CString::new(path).expect("no NUL");
+    lent::find(source, table, &path)
 }
 
 fn writing(answer: Result<usize, Refusal>) -> Writing {

@@ -3,6 +3,7 @@
 #![allow(unsafe_code)]
 
 use crate::lent::Insertion;
+use std::ffi::{c_char, CStr};
 
 /// `ton_reading`.
 #[repr(C)]
@@ -50,7 +51,18 @@ extern "C" {
         out: *mut u8,
         out_len: usize,
     ) -> Writing;
+
+    fn ton_find(
+        source: *const u8,
+        source_len: usize,
+        table: *const u64,
+        table_len: usize,
+        path: *const c_char,
+    ) -> usize;
 }
+
+/// `TON_NOWHERE`.
+pub const NOWHERE: usize = usize::MAX;
 
 pub fn read(source: &[u8], table: &mut [u64]) -> Reading {
     // SAFETY: the pointers come with the lengths of the slices that they stand for; what is
@@ -102,5 +114,46 @@ pub fn insert(
             out.as_mut_ptr(),
             out.len(),
         )
+    }
+}
+
+pub fn find(source: &[u8], table: &[u64], path: &CStr) -> usize {
+    // SAFETY: as in `read`; nothing is written, and the path ends with its NUL.
+    unsafe {
+        ton_find(
+            source.as_ptr(),
+            source.len(),
+            table.as_ptr(),
+            table.len(),
+            path.as_ptr(),
+        )
+    }
+}
+
+#[cfg(test)]
+mod tests {
+    use super::*;
+    use crate::Reason;
+
+    extern "C" {
+        fn ton_message(code: u64) -> *const c_char;
+    }
+
+    fn message(code: u64) -> &'static str {
+        // SAFETY: it takes any number, and what it points to ends with a NUL and stays.
+        let message = unsafe { CStr::from_ptr(ton_message(code)) };
+        message.to_str().expect("ASCII")
+    }
+
+    #[test]
+    fn messages_are_the_sentences_of_the_reasons() {
+        assert_eq!(message(0), "accepted");
+        for reason in Reason::ALL {
+            assert_eq!(message(reason.code()), reason.to_string());
+        }
+        let count = Reason::ALL.len() as u64;
+        for code in [count + 1, count + 2, 1 << 32, u64::MAX] {
+            assert_eq!(message(code), "unknown code");
+        }
     }
 }

@@ -3,6 +3,7 @@
 
 use crate::refusal::{Reason, Refusal};
 use crate::{ffi, SOURCE_LIMIT};
+use std::ffi::CStr;
 
 /// The words of a node: a table of n * `NODE_WORDS` words has room for n nodes.
 pub const NODE_WORDS: usize = 6;
@@ -151,4 +152,26 @@ fn refusal(code: u64, at: u64) -> Refusal {
         reason,
         at: at as usize,
     }
+}
+
+/// The index of the value's node that a path of keys leads to, in the table that a service left
+/// for this source; `None` if it leads nowhere or is no path. `docs/GUIDE.md` has the syntax, which
+/// is the command's.
+///
+/// Unlike the services this is not proved: it is C code beside the proved library. For any table
+/// it ends, and answers no index that the table has no room for.
+///
+/// ```
+/// use tonschnecke::lent::{find, read, table_words};
+/// let plan = br#"a:2:{s:5:"north";N;s:6:"months";a:1:{i:2;d:9.5;}}"#;
+/// let mut table = vec![0; table_words(plan.len())];
+/// read(plan, &mut table)?;
+/// assert_eq!(find(plan, &table, c"/"), Some(0));
+/// assert_eq!(find(plan, &table, c"/months/2"), Some(6));
+/// assert_eq!(find(plan, &table, c"/months/\"2\""), None);
+/// # Ok::<(), tonschnecke::Refusal>(())
+/// ```
+pub fn find(source: &[u8], table: &[u64], path: &CStr) -> Option<usize> {
+    let node = ffi::find(source, table, path);
+    (node != ffi::NOWHERE).then_some(node)
 }

@@ -1,7 +1,7 @@
 //! The wrapper's own part: numbers turned into types, and room that suffices.
 
-use tonschnecke::lent::{self, table_words, Insertion};
-use tonschnecke::{Kind, Plan, Reason, ReferenceTag, Refusal, SOURCE_LIMIT};
+use tonschnecke::lent::table_words;
+use tonschnecke::{Kind, Plan, Reason, ReferenceTag, SOURCE_LIMIT};
 
 const DAY: &[u8] = br#"O:3:"Day":6:{s:1:"i";i:-7;s:1:"d";d:.5;s:1:"b";b:1;s:1:"a";a:1:{i:0;N;}s:1:"r";r:1;s:1:"R";R:5;}"#;
 
@@ -158,37 +158,4 @@ fn the_longest_source_has_room_for_a_pair_more() {
     assert_eq!(longer.rows().len(), 2 * count + 3);
     assert_eq!(table_words(SOURCE_LIMIT + 1), table_words(SOURCE_LIMIT));
     assert_eq!(table_words(usize::MAX), table_words(SOURCE_LIMIT));
-}
-
-/// The deepest nesting and the most keys that do not rise: what needs the most stack.
-fn deep_and_crowded() -> String {
-    let keys: String = (0..3_000)
-        .map(|i| format!("s:5:\"{:05}\";N;", i * 7_919 % 100_000))
-        .collect();
-    format!(
-        "{}a:3000:{{{keys}{}",
-        "a:1:{i:0;".repeat(62),
-        "}".repeat(63)
-    )
-}
-
-#[test]
-fn a_call_needs_less_than_100_000_bytes_of_stack() {
-    let source = deep_and_crowded();
-    let called = std::thread::Builder::new()
-        .stack_size(100_000)
-        .spawn(move || -> Result<usize, Refusal> {
-            let insertion = Insertion {
-                array_node: 0,
-                pair_index: 0,
-                key: b"i:-1;",
-                value: b"N;",
-            };
-            let mut table = vec![0; table_words(source.len())];
-            let mut out = vec![0; SOURCE_LIMIT];
-            let length = lent::insert(source.as_bytes(), insertion, &mut table, &mut out)?;
-            Ok(length - source.len())
-        })
-        .unwrap();
-    assert_eq!(called.join().unwrap(), Ok("i:-1;N;".len()));
 }

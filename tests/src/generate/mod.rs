@@ -1,4 +1,4 @@
-//! Seeded plans: valid ones, damaged ones, and noise; insertions into them.
+//! Seeded plans: valid ones, damaged ones, and noise; insertions into them, and paths.
 
 mod damage;
 mod faults;
@@ -6,11 +6,13 @@ mod insertion;
 mod keys;
 mod long;
 mod noise;
+mod path;
 mod plan;
 mod spelling;
 
 pub use insertion::{insertion, Insertion};
 pub use long::padded;
+pub use path::{altered, component};
 
 use crate::random::Random;
 use long::{crowded, listed};

@@ -7,6 +7,7 @@ mod insert;
 mod meaning;
 mod numeral;
 mod parse;
+mod path;
 mod refusal;
 mod scan;
 mod table;
@@ -14,6 +15,7 @@ mod value;
 
 pub use meaning::{judge, Strange};
 pub use numeral::{Numeral, Role};
+pub use path::is_integer;
 pub use refusal::{Code, Refusal};
 pub use table::{is_of, Row, Table, WORDS};
 pub use value::Identity;
@@ -117,6 +119,12 @@ pub fn bytes_to_write(texts: Lent, place: Place) -> Result<usize, Refusal> {
     let pair = insert::new_pair(&root, texts, place).map_err(|code| code.at(0))?;
     insert::put_in(&mut root, place, pair);
     Ok(insert::text(&root).len())
+}
+
+/// Tells where paths lead in a plan; none for a refused one.
+pub fn finder(source: &[u8]) -> Option<impl Fn(&[u8]) -> Option<usize> + '_> {
+    let root = parse::parse(source, usize::MAX).outcome.ok()?;
+    Some(move |path: &[u8]| path::find(&root, source, path))
 }
 
 /// What the key of a fit key text is equal to; none for an unfit text.

@@ -123,11 +123,41 @@ fn every_refusal_has_an_example() {
 
 #[test]
 fn every_refusal_has_a_row() {
-    let (format, header) = (read(FORMAT), read(HEADER));
+    let format = read(FORMAT);
     let (_, refusals) = format.split_once("\n## Refusals\n").expect("a section");
     for number in Reason::ALL.map(Reason::code) {
-        let (row, in_header) = (format!("\n| {number} | "), format!("\n *{number:>6}   "));
+        let row = format!("\n| {number} | ");
         assert!(refusals.contains(&row), "{FORMAT}: {number}");
-        assert!(header.contains(&in_header), "{HEADER}: {number}");
     }
+}
+
+/// The header's name: `TON_TOO_DEEP` for `TooDeep`.
+fn name_in_header(reason: Reason) -> String {
+    let mut name = "TON".to_owned();
+    for letter in format!("{reason:?}").chars() {
+        if letter.is_ascii_uppercase() {
+            name.push('_');
+        }
+        name.push(letter.to_ascii_uppercase());
+    }
+    name
+}
+
+/// A line each: its name, its number, and what it means.
+#[test]
+fn the_header_names_every_code() {
+    let header = read(HEADER);
+    let (_, behind) = header.split_once("\nenum {\n").expect("the codes");
+    let (codes, _) = behind.split_once("\n};\n").expect("the end");
+    let mut rows = codes.lines().filter(|line| line.contains('='));
+    assert_eq!(rows.next(), Some("    TON_ACCEPTED = 0,"));
+    for reason in Reason::ALL {
+        let name = name_in_header(reason);
+        let row = rows.next().unwrap_or_else(|| panic!("{HEADER}: {name}"));
+        let (code, meaning) = row.split_once(" /* ").unwrap_or((row, ""));
+        let code = code.trim().trim_end_matches(',');
+        assert_eq!(code, format!("{name} = {}", reason.code()));
+        assert!(meaning.ends_with(" */"), "{row}");
+    }
+    assert_eq!(rows.next(), None);
 }

@@ -43,8 +43,9 @@ const CODE: [(&str, &[&str]); 4] = [
 ];
 
 /// Where the files are that documents name.
-const FOLDERS: [&str; 8] = [
+const FOLDERS: [&str; 9] = [
     "bench/",
+    "c/",
     "crates/",
     "docs/",
     "examples/",
