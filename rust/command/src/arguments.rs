@@ -134,11 +134,8 @@ fn service(subcommand: &OsStr, given: &mut Given) -> Result<Service, String> {
 }
 
 fn wait(service: &Service, given: &mut Given) -> Result<Duration, String> {
-    let text = match service.writes_plan() {
-        true => given.take("--wait"),
-        false => None,
-    };
-    let seconds = match text {
+    let takes = service.writes_plan();
+    let seconds = match takes.then(|| given.take("--wait")).flatten() {
         Some(text) => number(&text)
             .ok_or_else(|| format!("--wait {}: no number of 64 bits", text.display()))?,
         None => WAIT,

@@ -1,13 +1,12 @@
 //! Replacing a plan's own file: whole or not at all.
 
-use crate::run::{is_root, names, run, run_bound, set_mode, shell, Folder, Ran, FULL_DISK, YEAR};
+use crate::run::{
+    is_root, names, run, run_bound, set_mode, shell, Folder, Ran, CANONICAL, FULL_DISK, ODD, YEAR,
+};
 use std::fs;
 use std::os::unix::fs::{chown, symlink, MetadataExt};
 use std::path::Path;
 use std::process::Command;
-
-const ODD: &str = "a:01:{i:+0;N;}";
-const CANONICAL: &str = "a:1:{i:0;N;}";
 
 fn canonical(file: &Path) -> Ran {
     run([

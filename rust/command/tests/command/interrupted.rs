@@ -1,6 +1,6 @@
 //! Ended half way: the plan is whole, and nothing is left beside it.
 
-use crate::run::{command, names, shell, Folder, Ran, Sender, PROGRAM, YEAR};
+use crate::run::{command, long_tree, names, shell, Folder, Ran, Sender, PROGRAM, YEAR};
 use std::fs::{self, File};
 use std::os::unix::process::ExitStatusExt;
 use std::process::{Command, ExitStatus};
@@ -178,8 +178,9 @@ fn ignored_signals_stay_ignored() {
         ignoring.args(["-c", &script, "bash", PROGRAM]);
         ignoring.args(insert(&folder).get_args());
         let mut child = ignoring.current_dir(folder.path("")).spawn().unwrap();
-        sleep(Duration::from_millis(200));
-        assert_eq!(child.try_wait().unwrap(), None);
+        // From then on it ignores the signal.
+        let running = format!("/proc/{}/comm", child.id());
+        while fs::read_to_string(&running).unwrap() != "tonschnecke\n" {}
         lock.unlock().unwrap();
         let status = loop {
             sender.send(name, &child);
@@ -193,13 +194,6 @@ fn ignored_signals_stay_ignored() {
         nothing_is_left(&folder);
     }
     sender.end();
-}
-
-/// A plan whose tree is longer than any pipe.
-fn long_tree() -> String {
-    let (open, close) = ("a:1:{i:0;".repeat(62), "}".repeat(62));
-    let references: String = (1..5400).map(|key| format!("i:{key};R:64;")).collect();
-    format!("a:5400:{{i:0;{open}N;{close}{references}}}")
 }
 
 #[test]

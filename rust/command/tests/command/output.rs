@@ -1,11 +1,10 @@
 //! Output by `-o`: a file is written whole or not at all; what is no file, directly.
 
-use crate::run::{is_root, names, run_bound, set_mode, shell, Folder, Ran, FULL_DISK, YEAR};
+use crate::run::{
+    is_root, names, run_bound, set_mode, shell, Folder, Ran, CANONICAL, FULL_DISK, ODD, YEAR,
+};
 use std::fs;
 use std::os::unix::fs::{chown, symlink, MetadataExt};
-
-const ODD: &str = "a:01:{i:+0;N;}";
-const CANONICAL: &str = "a:1:{i:0;N;}";
 
 /// The year's plan under three names, and another file.
 fn linked() -> Folder {
@@ -185,27 +184,19 @@ fn a_long_name() {
 
 #[test]
 fn open_files_go_on() {
-    for (name, redirection) in [
-        ("/dev/stdout", "> out"),
-        ("/dev/fd/1", "> out"),
-        ("/proc/self/fd/1", "> out"),
-        ("/dev/stderr", "2>> out"),
-        ("/dev/fd/3", "3>> out"),
+    for (name, descriptor, redirection) in [
+        ("/dev/stdout", 1, "> out"),
+        ("/dev/fd/1", 1, "> out"),
+        ("/proc/self/fd/1", 1, "> out"),
+        ("/dev/stderr", 2, "2>> out"),
+        ("/dev/fd/3", 3, "3>> out"),
     ] {
         let folder = Folder::new();
         folder.file("plan", "N;");
-        let descriptor = redirection.trim_end_matches("> out");
-        let descriptor = if descriptor.is_empty() {
-            "1"
-        } else {
-            descriptor
-        };
-        let echo = |word: &str| format!("echo {word} >&{}", descriptor.trim_end_matches('>'));
-        let script = format!(
-            "{{ {}; \"$0\" show plan -o {name}; {}; }} {redirection}",
-            echo("before"),
-            echo("behind")
-        );
+        let echo = |word| format!("echo {word} >&{descriptor}");
+        let (before, behind) = (echo("before"), echo("behind"));
+        let show = format!("\"$0\" show plan -o {name}");
+        let script = format!("{{ {before}; {show}; {behind}; }} {redirection}");
         Ran::new(shell(&folder, &script)).gives("");
         let out = fs::read_to_string(folder.path("out")).unwrap();
         assert_eq!(out, "before\n/: null\nbehind\n", "{name}");

@@ -11,6 +11,18 @@ use std::sync::atomic::{AtomicU32, Ordering};
 pub const PROGRAM: &str = env!("CARGO_BIN_EXE_tonschnecke");
 pub const YEAR: &str = concat!(env!("CARGO_MANIFEST_DIR"), "/../../examples/year.plan");
 
+/// A plan, and its canonical text.
+pub const ODD: &str = "a:01:{i:+0;N;}";
+pub const CANONICAL: &str = "a:1:{i:0;N;}";
+
+/// A plan whose tree is longer than any pipe: a value at the greatest depth, and as many
+/// references to it as fit.
+pub fn long_tree() -> String {
+    let (open, close) = ("a:1:{i:0;".repeat(62), "}".repeat(62));
+    let references: String = (1..5400).map(|key| format!("i:{key};R:64;")).collect();
+    format!("a:5400:{{i:0;{open}N;{close}{references}}}")
+}
+
 /// What a run left.
 #[derive(Debug, PartialEq, Eq)]
 pub struct Ran {

@@ -1,6 +1,6 @@
 //! What each subcommand gives, from a file and from a pipe.
 
-use crate::run::{pipe, run, Folder, YEAR};
+use crate::run::{long_tree, pipe, run, Folder, YEAR};
 use std::fs;
 
 const PLAN: &[u8] = b"a:3:{i:0;d:1.5;i:1;d:2.5;i:2;R:3;}";
@@ -88,10 +88,7 @@ fn show_cuts_what_a_reference_names() {
 
 #[test]
 fn show_takes_little_time_for_the_longest_plan() {
-    // A value at the greatest depth, and as many references to it as fit.
-    let (open, close) = ("a:1:{i:0;".repeat(62), "}".repeat(62));
-    let references: String = (1..5400).map(|key| format!("i:{key};R:64;")).collect();
-    let plan = format!("a:5400:{{i:0;{open}N;{close}{references}}}");
+    let plan = long_tree();
     assert!((60_000..=65_536).contains(&plan.len()), "{}", plan.len());
     let start = std::time::Instant::now();
     let ran = pipe(plan.as_bytes(), ["show"]);
