@@ -1,6 +1,7 @@
 //! Where paths lead: the library against paths written by hand, the model, and what the plan itself
 //! says; and tables that are not the plan's.
 
+use tonschnecke::{lent, Plan};
 use tonschnecke_tests::call::{Place, Texts};
 use tonschnecke_tests::generate;
 use tonschnecke_tests::library;
@@ -50,20 +51,50 @@ const NOWHERE: &str = r#"/1 /7 /+0 /00 /--7 /- /A /b /abc /a%00 /a/1 /a/"2" /a/b
 const NO_PATH: &str = r#"a 0 "" // //a /a/ /a//2 /0/ /""/ /"02 /02" /" /""" /"a"b /a"b" /"/" /a" /% /%2 /"%2" /%2/F /%g0
     /%0g /%+5 /%-1 /%% /0%"#;
 
+/// Where both searches lead, that of C and that of the wrapper for Rust, which must be the same.
+struct Searches {
+    source: Vec<u8>,
+    table: Vec<u64>,
+    plan: Plan,
+}
+
+impl Searches {
+    fn of(source: &[u8]) -> Searches {
+        Searches {
+            source: source.to_vec(),
+            table: table_of(source),
+            plan: Plan::read(source).expect("accepted"),
+        }
+    }
+
+    fn find(&self, path: &[u8]) -> Option<usize> {
+        let found = library::find(&self.source, &self.table, path);
+        let in_rust = self.plan.path(path).ok().map(|value| value.node());
+        assert_eq!(in_rust, found, "{}", path.escape_ascii());
+        found
+    }
+
+    /// The path that the wrapper gives for a node.
+    fn path_to(&self, node: usize) -> Vec<u8> {
+        let value = self.plan.value(node).expect("a value");
+        value.path().to_string().into_bytes()
+    }
+}
+
 fn table_of(source: &[u8]) -> Vec<u64> {
-    let mut table = vec![0; tonschnecke::table_words(source.len())];
+    let mut table = vec![0; lent::table_words(source.len())];
     assert_eq!(library::read(source, &mut table).code, 0);
     table
 }
 
 #[test]
 fn paths_written_by_hand() {
-    let table = table_of(PLAN);
+    let searches = Searches::of(PLAN);
     let model = model::finder(PLAN).expect("accepted");
     let check = |path: &[u8], node| {
         let shown = path.escape_ascii();
         assert_eq!(model(path), node, "the model, {shown}");
-        assert_eq!(library::find(PLAN, &table, path), node, "{shown}");
+        assert_eq!(searches.find(path), node, "{shown}");
     };
     for (node, paths) in LEADS {
         for path in paths.split_whitespace() {
@@ -110,15 +141,16 @@ fn every_value_is_found_and_altered_paths_lead_where_the_model_says() {
         if rows.rows.len() > 1_000 {
             continue;
         }
-        let table = table_of(&plan);
+        let searches = Searches::of(&plan);
         let mut check = |random: &mut Random, node: usize, path: &[u8]| {
             let shown = || format!("{} in {}", path.escape_ascii(), plan.escape_ascii());
             assert_eq!(model(path), Some(node), "the model, {}", shown());
-            let found = library::find(&plan, &table, path);
-            assert_eq!(found, Some(node), "{}", shown());
+            assert_eq!(searches.find(path), Some(node), "{}", shown());
+            let back = searches.path_to(node);
+            assert_eq!(model(&back), Some(node), "{}", back.escape_ascii());
             values += 1;
             let other = generate::altered(random, path);
-            let found = library::find(&plan, &table, &other);
+            let found = searches.find(&other);
             assert_eq!(
                 found,
                 model(&other),
