@@ -10,6 +10,25 @@ use crate::SOURCE_LIMIT;
 use std::fmt;
 
 /// A plan, read once. It is shown as a tree.
+///
+/// Bytes and table cannot be parted, and those of two plans not be brought together:
+///
+/// ```compile_fail
+/// # use tonschnecke::Plan;
+/// let old = Plan::read("a:0:{}").unwrap();
+/// let new = old.root().insert(0, b"i:0;", b"N;").unwrap();
+/// let mixed = Plan { source: old.into_bytes(), ..new };
+/// ```
+///
+/// Nor does a value outlive its plan:
+///
+/// ```compile_fail
+/// # use tonschnecke::Plan;
+/// let plan = Plan::read("a:0:{}").unwrap();
+/// let root = plan.root();
+/// drop(plan);
+/// root.kind();
+/// ```
 #[derive(Clone, PartialEq, Eq)]
 pub struct Plan {
     source: Vec<u8>,

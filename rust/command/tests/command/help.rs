@@ -1,7 +1,8 @@
 //! What the command says of itself.
 
-use crate::run::{run, Ran};
+use crate::run::{run, shell, Folder, Ran, PROGRAM, YEAR};
 use std::collections::BTreeSet;
+use std::fs;
 
 fn text(arguments: &[&str]) -> String {
     let Ran { status, out, error } = run(arguments);
@@ -11,13 +12,17 @@ fn text(arguments: &[&str]) -> String {
 
 const SUBCOMMANDS: [&str; 4] = ["nodes", "show", "canonical", "insert"];
 
+/// All that there is.
+fn pages() -> Vec<String> {
+    let topics = SUBCOMMANDS.into_iter().chain(["paths"]);
+    let mut pages: Vec<String> = topics.map(|topic| text(&["help", topic])).collect();
+    pages.push(text(&["help"]));
+    pages
+}
+
 #[test]
 fn fits_80_columns() {
-    let topics = SUBCOMMANDS.into_iter().chain(["paths"]);
-    for help in topics
-        .map(|topic| text(&["help", topic]))
-        .chain([text(&["help"])])
-    {
+    for help in pages() {
         for line in help.lines() {
             assert!(line.chars().count() < 80, "{line}");
         }
@@ -74,4 +79,34 @@ fn of_a_subcommand_lists_its_options() {
         let listed: BTreeSet<&str> = words.filter(|word| word.starts_with('-')).collect();
         assert_eq!(Vec::from_iter(listed).join(" "), options, "{name}");
     }
+}
+
+/// The commands behind the word Example or Examples, those of several lines as one.
+fn examples(help: &str) -> Vec<String> {
+    let behind = help.split_once("\nExample").map_or("", |(_, rest)| rest);
+    let lines = behind.lines().skip(1).take_while(|line| !line.is_empty());
+    let mut commands: Vec<String> = Vec::new();
+    for line in lines {
+        match commands.last_mut() {
+            Some(last) if last.ends_with('\\') => *last += &format!("\n{line}"),
+            _ => commands.push(line.into()),
+        }
+    }
+    commands
+}
+
+#[test]
+fn examples_are_accepted() {
+    let folder = Folder::new();
+    folder.file("days.plan", "a:2:{i:2;d:9.5;i:4;R:2;}");
+    folder.file("a.plan", "a:01:{i:0;N;}");
+    folder.file("b.plan", "a:1:{i:0;N;}");
+    let examples: Vec<String> = pages().iter().flat_map(|help| examples(help)).collect();
+    for example in &examples {
+        folder.file("year.plan", fs::read(YEAR).unwrap());
+        let script = format!("tonschnecke() {{ \"{PROGRAM}\" \"$@\"; }}\n{example}");
+        let output = shell(&folder, &script);
+        assert!(output.status.success(), "{example}: {output:?}");
+    }
+    assert_eq!(examples.len(), 6);
 }

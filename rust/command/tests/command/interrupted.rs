@@ -12,10 +12,22 @@ const TERMINATE: (&str, i32) = ("TERM", 15);
 const HANG_UP: (&str, i32) = ("HUP", 1);
 const KILL: (&str, i32) = ("KILL", 9);
 
+const INSERT: [&str; 8] = [
+    "insert",
+    "plan",
+    "--quiet",
+    "--in-place",
+    "--array=/months/2",
+    "--at=end",
+    "--int-key=29",
+    "--null",
+];
+
+/// Puts a day in; whatever signals those ignore who run the tests, as nohup does, it ignores none.
 fn insert(folder: &Folder) -> Command {
-    let mut insert = command(["insert", "plan", "--quiet", "--in-place"]);
-    insert.args(["--array=/months/2", "--at=end", "--key=i:29;", "--value=N;"]);
-    insert.current_dir(folder.path(""));
+    let mut insert = Command::new("env");
+    insert.args(["--default-signal=HUP,INT,TERM", PROGRAM]);
+    insert.args(INSERT).current_dir(folder.path(""));
     insert
 }
 
@@ -175,8 +187,7 @@ fn ignored_signals_stay_ignored() {
         lock.lock().unwrap();
         let script = format!("trap '' {name}; exec \"$@\"");
         let mut ignoring = Command::new("bash");
-        ignoring.args(["-c", &script, "bash", PROGRAM]);
-        ignoring.args(insert(&folder).get_args());
+        ignoring.args(["-c", &script, "bash", PROGRAM]).args(INSERT);
         let mut child = ignoring.current_dir(folder.path("")).spawn().unwrap();
         // From then on it ignores the signal.
         let running = format!("/proc/{}/comm", child.id());
