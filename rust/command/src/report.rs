@@ -6,17 +6,18 @@ use std::io::{self, Write};
 use tonschnecke::lent::Insertion;
 use tonschnecke::{Kind, Plan};
 
-/// Says it, with the file that was written, unless it is not wanted.
+/// Says it, with the file that it is about, unless it is not wanted.
 pub fn say(job: &Job, sentence: impl FnOnce() -> String) {
     if !job.report {
         return;
     }
-    let written = match &job.destination {
-        Destination::StandardOutput => String::new(),
-        Destination::File(file) | Destination::InPlace(file) => format!("{}: ", file.display()),
-        Destination::Nothing => "dry run, nothing is written: ".into(),
+    let (file, dry_run) = match &job.destination {
+        Destination::StandardOutput => (None, ""),
+        Destination::File(file) | Destination::InPlace(file) => (Some(file), ""),
+        Destination::Nothing => (job.file.as_ref(), "dry run, nothing is written: "),
     };
-    let line = format!("{written}{}\n", sentence());
+    let file = file.map_or(String::new(), |file| format!("{}: ", file.display()));
+    let line = format!("{file}{dry_run}{}\n", sentence());
     // The plan is written: where standard error fails, the status still says so.
     let _ = io::stderr().write_all(line.as_bytes());
 }

@@ -89,14 +89,18 @@ fn of_a_dry_run_which_writes_nothing() {
         ];
         let ran = run(insert.into_iter().chain(destination.clone()));
         let done = "1 pair put in at place 0 of /, no reference raised";
-        said(&ran, &format!("dry run, nothing is written: {done}\n"));
+        said(
+            &ran,
+            &format!("{plan}: dry run, nothing is written: {done}\n"),
+        );
         assert_eq!(ran.out, b"");
         let ran = run(["canonical", plan, "--dry-run"]
             .into_iter()
             .chain(destination));
+        let done = "the canonical text has 2 bytes fewer";
         said(
             &ran,
-            "dry run, nothing is written: the canonical text has 2 bytes fewer\n",
+            &format!("{plan}: dry run, nothing is written: {done}\n"),
         );
         assert_eq!(ran.out, b"");
     }
