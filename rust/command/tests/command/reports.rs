@@ -23,9 +23,8 @@ fn of_a_pair_and_the_references_behind_it() {
     let folder = Folder::new();
     let one = folder.file("one", "a:3:{i:1;d:9.5;i:2;d:8;i:5;R:3;}");
     let insert = |place: &str| {
-        let pair = ["--array=/", "--int-key=7", "--null"];
         let file = one.to_str().unwrap();
-        run(["insert", file, place].into_iter().chain(pair))
+        run(["insert", file, place].into_iter().chain(PAIR))
     };
     said(
         &insert("--at=1"),
@@ -67,6 +66,8 @@ fn is_not_wanted() {
     said(&run(["canonical", plan]), "");
 }
 
+const PAIR: [&str; 3] = ["--array=/", "--int-key=7", "--null"];
+
 #[test]
 fn of_a_dry_run_which_writes_nothing() {
     let folder = Folder::new();
@@ -78,44 +79,30 @@ fn of_a_dry_run_which_writes_nothing() {
         vec!["-o", new.to_str().unwrap()],
     ];
     for destination in destinations {
-        let insert = [
-            "insert",
-            plan,
-            "--dry-run",
-            "--array=/",
-            "--at=0",
-            "--int-key=7",
-            "--null",
-        ];
-        let ran = run(insert.into_iter().chain(destination.clone()));
-        let done = "1 pair put in at place 0 of /, no reference raised";
-        said(
-            &ran,
-            &format!("{plan}: dry run, nothing is written: {done}\n"),
+        let dry_run = |job: &[&str], done: &str| {
+            let ran = run([job, &["--dry-run"], &destination].concat());
+            said(
+                &ran,
+                &format!("{plan}: dry run, nothing is written: {done}\n"),
+            );
+            assert_eq!(ran.out, b"");
+        };
+        dry_run(
+            &[&["insert", plan, "--at=0"], &PAIR[..]].concat(),
+            "1 pair put in at place 0 of /, no reference raised",
         );
-        assert_eq!(ran.out, b"");
-        let ran = run(["canonical", plan, "--dry-run"]
-            .into_iter()
-            .chain(destination));
-        let done = "the canonical text has 2 bytes fewer";
-        said(
-            &ran,
-            &format!("{plan}: dry run, nothing is written: {done}\n"),
-        );
-        assert_eq!(ran.out, b"");
+        dry_run(&["canonical", plan], "the canonical text has 2 bytes fewer");
     }
     assert_eq!(names(&folder.path("")), ["plan"]);
     assert_eq!(fs::read(plan).unwrap(), b"a:01:{i:+0;N;}");
-    let refused = [
-        "insert",
-        plan,
-        "--dry-run",
-        "--array=/",
-        "--at=9",
-        "--int-key=7",
-        "--null",
-    ];
-    assert_eq!(run(refused).status, Some(1));
+}
+
+#[test]
+fn of_a_dry_run_that_is_refused() {
+    let folder = Folder::new();
+    let plan = folder.file("plan", "a:0:{}");
+    let refused = ["insert", plan.to_str().unwrap(), "--dry-run", "--at=9"];
+    assert_eq!(run(refused.into_iter().chain(PAIR)).status, Some(1));
 }
 
 #[test]
