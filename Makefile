@@ -3,7 +3,7 @@
 # make test: the gate, what CI runs; its last line is 'N passed, 0 failed'.  make wrong: more wrong programs, each to be refused.
 # make fuzz SECONDS=600 SEED=7: the library against the independent side for so long.  make bench: its times beside Rust code's and,
 # where php is installed, PHP's, and its instructions, where valgrind is; make bench ROUNDS=1 is a trial in seconds.
-.PHONY: all programs archive command run test wrong compare fuzz bench install uninstall clean needed always
+.PHONY: all programs archive command run test wrong compare checks fuzz bench install uninstall clean needed always
 # two runs of rt at once would write the same files
 .NOTPARALLEL:
 .DELETE_ON_ERROR:
@@ -71,14 +71,21 @@ programs: needed
 run: command
 	@examples/run.sh
 
-# the proved library beside a side written from the specification alone; the programs, the C examples and what is installed as
-# a user runs them
+# the proved library beside a side written from the specification alone, on one core; all other tests on the others meanwhile
 compare: command programs
+	$(CARGO) build --quiet --release --manifest-path tests/Cargo.toml --bin differential
+	@echo 'Comparing the library with the independent side in the background.'
+	@$(BUILD)/cargo/release/differential > $(BUILD)/differential.log 2>&1 & \
+	$(MAKE) --no-print-directory checks; status=$$?; \
+	wait $$! || status=1; cat $(BUILD)/differential.log; exit $$status
+
+# of what is built: the programs, the C examples and what is installed as a user runs them; the command, the wrapper, and what they
+# are tested with
+checks:
 	for test in tests/programs/*.sh; do $$test || exit 1; done
 	$(CARGO) test --quiet --release --manifest-path rust/Cargo.toml
 	$(CARGO) test --quiet --release --manifest-path tests/Cargo.toml
 	$(CARGO) test --quiet --release --manifest-path bench/Cargo.toml
-	$(CARGO) run --quiet --release --manifest-path tests/Cargo.toml --bin differential
 
 fuzz: needed archive
 	$(CARGO) run --quiet --release --manifest-path tests/Cargo.toml --bin differential -- --seconds $(SECONDS) --seed $(SEED)

@@ -29,7 +29,9 @@ cat > "$scratch/bin/cargo" <<'END'
 #!/bin/sh
 case $1 in
     --version) echo cargo 1.95.0 ;;
-    build) mkdir -p build/cargo/release && echo command > build/cargo/release/tonschnecke ;;
+    build)
+        mkdir -p build/cargo/release && cd build/cargo/release && echo command > tonschnecke
+        printf '#!/bin/sh\necho compared\n[ ! -e differing ]\n' > differential && chmod +x differential ;;
     test) [ ! -e failing ] ;;
 esac
 END
@@ -143,6 +145,10 @@ echo old > build/libtonschnecke.a
 expect 'the gate' test 0 'fmt ci check staticlib check '
 equal 'the gate, its verdict' "$(last 1)" '7 passed, 0 failed'
 expect_archive 'the gate'
+touch differing
+expect 'the gate with a library that differs' test 2 'fmt ci check staticlib check '
+equal 'the gate with a library that differs, its verdict' "$(printf '%s\n' "$printed" | grep -c -e ' passed, ' -e '^compared$')" 1
+rm differing
 touch failing
 expect 'the gate with a failing test' test 2 'fmt ci check staticlib check '
 equal 'the gate with a failing test, its verdict' "$(printf '%s\n' "$printed" | grep -c ' passed, ')" 0

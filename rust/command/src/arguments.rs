@@ -1,10 +1,10 @@
 //! The arguments, and what they ask for.
 
 use crate::failure::Failure;
-use crate::help;
 use crate::options::{number, Given};
 use crate::output::Destination;
 use crate::pair::Pair;
+use crate::{help, input};
 use std::ffi::{OsStr, OsString};
 use std::os::unix::ffi::OsStrExt;
 use std::path::PathBuf;
@@ -93,14 +93,14 @@ fn jobs(
     }
     let service = service(subcommand, given)?;
     let several = files.len() > 1;
-    if let (Service::Insert(_), [_, Some(second), ..]) = (&service, &files[..]) {
+    if let (Service::Insert(_), [_, second, ..]) = (&service, &files[..]) {
+        let second = input::name(second.as_deref());
         return Err(format!(
-            "one FILE is enough to insert into; what is {}?",
-            second.display()
+            "one FILE is enough to insert into; what is {second}?"
         ));
     }
-    let output = Output::parse(&service, several, given)?;
-    let quiet = output.edits && given.flag("--quiet");
+    let destinations = Destinations::parse(&service, several, given)?;
+    let quiet = service.writes_plan() && given.flag("--quiet");
     let wait = wait(&service, given)?;
     if let Some(name) = given.left() {
         return Err(format!("{} takes no {name}", subcommand.display()));
@@ -108,13 +108,13 @@ fn jobs(
     files
         .into_iter()
         .map(|file| {
-            let destination = output.destination(file.as_ref())?;
+            let destination = destinations.of(file.as_ref())?;
             Ok(Job {
                 service: service.clone(),
                 heading: several && matches!(destination, Destination::StandardOutput),
                 destination,
                 file,
-                report: output.edits && !quiet,
+                report: destinations.edits && !quiet,
                 wait,
             })
         })
@@ -144,7 +144,7 @@ fn wait(service: &Service, given: &mut Given) -> Result<Duration, String> {
 }
 
 /// Where the results go, of all files.
-struct Output {
+struct Destinations {
     file: Option<PathBuf>,
     in_place: bool,
     dry_run: bool,
@@ -152,8 +152,8 @@ struct Output {
     edits: bool,
 }
 
-impl Output {
-    fn parse(service: &Service, several: bool, given: &mut Given) -> Result<Output, String> {
+impl Destinations {
+    fn parse(service: &Service, several: bool, given: &mut Given) -> Result<Destinations, String> {
         let in_place = service.writes_plan() && given.flag("--in-place");
         let dry_run = service.writes_plan() && given.flag("--dry-run");
         let file = given.take("-o").map(PathBuf::from);
@@ -163,7 +163,7 @@ impl Output {
         if several && file.is_some() {
             return Err("-o takes the result of one FILE".into());
         }
-        Ok(Output {
+        Ok(Destinations {
             file,
             in_place,
             dry_run,
@@ -172,7 +172,7 @@ impl Output {
     }
 
     /// Where the result of this plan goes.
-    fn destination(&self, plan: Option<&PathBuf>) -> Result<Destination, String> {
+    fn of(&self, plan: Option<&PathBuf>) -> Result<Destination, String> {
         match (&self.file, plan) {
             (_, None) if self.in_place => Err("--in-place needs a FILE".into()),
             _ if self.dry_run => Ok(Destination::Nothing),

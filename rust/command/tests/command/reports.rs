@@ -64,6 +64,7 @@ fn is_not_wanted() {
     said(&run(["canonical", plan, "--quiet", "--in-place"]), "");
     // What is only printed in another way is no edit.
     said(&run(["canonical", plan]), "");
+    said(&run(["canonical", plan, "--quiet"]), "");
 }
 
 const PAIR: [&str; 3] = ["--array=/", "--int-key=7", "--null"];

@@ -18,7 +18,10 @@ const MISTAKES: [(&str, &str); 40] = [
     ("show -h=x", "unknown option -h=x"),
     ("show --dry-run a", "show takes no --dry-run"),
     ("show --quiet a", "show takes no --quiet"),
-    ("canonical a --quiet", "canonical takes no --quiet"),
+    (
+        "insert a - --array=/ --at=0 --int-key=1 --null",
+        "one FILE is enough to insert into; what is standard input?",
+    ),
     ("nodes --places", "nodes takes no --places"),
     ("insert --null=x", "--null takes no value"),
     ("show -o=file", "unknown option -o=file"),
