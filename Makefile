@@ -13,7 +13,8 @@ BUILD := $(CURDIR)/build
 ARCHIVE := $(BUILD)/libtonschnecke.a
 PROVED := $(BUILD)/proved.a
 COMPILE := gcc -std=c99 -O2 -fPIC -Wall -Wextra -Werror -pedantic -Iinclude
-CARGO := CARGO_TARGET_DIR=$(BUILD)/cargo TONSCHNECKE_LIB_DIR=$(BUILD) cargo
+# no warning is let through here; a user's own build of the wrapper is not kept from going on
+CARGO := RUSTFLAGS=-Dwarnings CARGO_TARGET_DIR=$(BUILD)/cargo TONSCHNECKE_LIB_DIR=$(BUILD) cargo
 LIBRARIES := $(patsubst crates/%/src/lib.rt,%,$(wildcard crates/*/src/lib.rt))
 SOURCES = $(wildcard $(foreach part,src specs proofs,$(LIBRARIES:%=crates/%/$(part))))
 PROGRAMS := $(patsubst crates/%/src/main.rt,%,$(wildcard crates/*/src/main.rt))

@@ -23,6 +23,10 @@ int main(void)
     static const char key[] = "i:29;", value[] = "d:9.5;";
     /* up to one byte too many, so that a plan too long is refused and not cut */
     size_t size = fread(plan, 1, sizeof plan, stdin);
+    if (ferror(stdin)) {
+        perror("standard input");
+        return 2;
+    }
     ton_reading r = ton_read(plan, size, table, WORDS);
     if (r.code != TON_ACCEPTED)
         return refused(r.code, r.at);

@@ -142,7 +142,7 @@ ton_writing ton_insert(const uint8_t *source, size_t source_len, size_t array_no
  * the one that a function above left: by ton_read for this source; by one that writes for the bytes written, which are then the
  * source here. Neither is changed. After a refusal every path leads nowhere.
  *
- * The path ends with a NUL and is written as for the command:
+ * The path may not be null. It ends with a NUL and is written as for the command:
  *   /             the plan itself, node 0
  *   /months/2     the value with key 2 in the value with key months, an array or an object each; references are not followed
  *   2  -7         a component that is an integer of 64 bits in shortest decimal form is an integer key

@@ -1,5 +1,6 @@
 //! The arguments, and what they ask for.
 
+use crate::escape::shown;
 use crate::failure::Failure;
 use crate::options::{number, Given};
 use crate::output::Destination;
@@ -32,6 +33,8 @@ pub struct Job {
     pub heading: bool,
     /// Whether an edit says what it did.
     pub report: bool,
+    /// Whether it only says what it would do.
+    pub dry_run: bool,
     /// How long to wait for somebody else who edits the file that is to be replaced.
     pub wait: Duration,
 }
@@ -52,8 +55,16 @@ impl Service {
 }
 
 pub fn parse(arguments: impl Iterator<Item = OsString>) -> Result<Request, Failure> {
-    let mut given = Given::scan(arguments).map_err(Failure::Usage)?;
-    understood(&mut given).map_err(Failure::Usage)
+    let mut help = "help".to_owned();
+    let arguments = arguments.inspect(|argument| {
+        let topic = argument.to_str().filter(|_| help == "help");
+        if let Some(topic) = topic.filter(|topic| help::on(topic.as_ref()).is_some()) {
+            help = format!("help {topic}");
+        }
+    });
+    Given::scan(arguments)
+        .and_then(|mut given| understood(&mut given))
+        .map_err(|message| Failure::Usage(message, help))
 }
 
 fn understood(given: &mut Given) -> Result<Request, String> {
@@ -68,7 +79,14 @@ fn understood(given: &mut Given) -> Result<Request, String> {
     }
     let subcommand = subcommand.ok_or("a subcommand is missing")?;
     if subcommand == "help" {
-        return asked_for_help(words.next().as_deref()).map(Request::Help);
+        let topic = words.next();
+        return match words.next() {
+            None => asked_for_help(topic.as_deref()).map(Request::Help),
+            Some(word) => Err(format!(
+                "one subcommand is enough; what is {}?",
+                shown(&word)
+            )),
+        };
     }
     let files = words.map(|file| (file != "-").then(|| PathBuf::from(file)));
     jobs(&subcommand, files.collect(), given).map(Request::Run)
@@ -78,7 +96,7 @@ fn asked_for_help(topic: Option<&OsStr>) -> Result<&'static str, String> {
     match topic {
         None => Ok(help::OVERVIEW),
         Some(topic) => {
-            help::on(topic).ok_or_else(|| format!("there is no help on {}", topic.display()))
+            help::on(topic).ok_or_else(|| format!("there is no help on {}", shown(topic)))
         }
     }
 }
@@ -103,7 +121,7 @@ fn jobs(
     let quiet = service.writes_plan() && given.flag("--quiet");
     let wait = wait(&service, given)?;
     if let Some(name) = given.left() {
-        return Err(format!("{} takes no {name}", subcommand.display()));
+        return Err(format!("{} takes no {name}", shown(subcommand)));
     }
     files
         .into_iter()
@@ -115,6 +133,7 @@ fn jobs(
                 destination,
                 file,
                 report: destinations.edits && !quiet,
+                dry_run: destinations.dry_run,
                 wait,
             })
         })
@@ -129,7 +148,7 @@ fn service(subcommand: &OsStr, given: &mut Given) -> Result<Service, String> {
         }),
         b"canonical" => Ok(Service::Canonical),
         b"insert" => Pair::parse(given).map(Service::Insert),
-        _ => Err(format!("unknown subcommand {}", subcommand.display())),
+        _ => Err(format!("unknown subcommand {}", shown(subcommand))),
     }
 }
 
@@ -137,7 +156,7 @@ fn wait(service: &Service, given: &mut Given) -> Result<Duration, String> {
     let takes = service.writes_plan();
     let seconds = match takes.then(|| given.take("--wait")).flatten() {
         Some(text) => number(&text)
-            .ok_or_else(|| format!("--wait {}: no number of 64 bits", text.display()))?,
+            .ok_or_else(|| format!("--wait {}: no count of whole seconds", shown(&text)))?,
         None => WAIT,
     };
     Ok(Duration::from_secs(seconds as u64))
@@ -156,7 +175,8 @@ impl Destinations {
     fn parse(service: &Service, several: bool, given: &mut Given) -> Result<Destinations, String> {
         let in_place = service.writes_plan() && given.flag("--in-place");
         let dry_run = service.writes_plan() && given.flag("--dry-run");
-        let file = given.take("-o").map(PathBuf::from);
+        let file = given.take("-o").filter(|file| file != "-");
+        let file = file.map(PathBuf::from);
         if in_place && file.is_some() {
             return Err("--in-place and -o exclude each other".into());
         }
@@ -175,7 +195,6 @@ impl Destinations {
     fn of(&self, plan: Option<&PathBuf>) -> Result<Destination, String> {
         match (&self.file, plan) {
             (_, None) if self.in_place => Err("--in-place needs a FILE".into()),
-            _ if self.dry_run => Ok(Destination::Nothing),
             (_, Some(plan)) if self.in_place => Ok(Destination::InPlace(plan.clone())),
             (Some(file), _) => Ok(Destination::File(file.clone())),
             (None, _) => Ok(Destination::StandardOutput),

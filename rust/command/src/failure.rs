@@ -1,5 +1,6 @@
 //! Why the command ends without its result.
 
+use crate::input;
 use crate::signals;
 use std::io::{self, Write};
 use std::path::Path;
@@ -8,8 +9,8 @@ use std::path::Path;
 pub enum Failure {
     /// The library refused.
     Refused(String),
-    /// The arguments are not understood.
-    Usage(String),
+    /// The arguments are not understood; with the words that ask for the right help.
+    Usage(String, String),
     /// A file cannot be read or written.
     Trouble(String),
     /// The plan has no such path.
@@ -21,11 +22,12 @@ pub enum Failure {
 }
 
 impl Failure {
-    /// The same, with the file's name where the sentence speaks of the plan.
-    pub fn of(self, file: Option<&Path>) -> Failure {
+    /// The same, with the file's name where the sentence speaks of the plan. Standard input needs
+    /// one only among others.
+    pub fn of(self, file: Option<&Path>, among_others: bool) -> Failure {
         let named = |message| match file {
-            Some(file) => format!("{}: {message}", file.display()),
-            None => message,
+            None if !among_others => message,
+            _ => format!("{}: {message}", input::name(file)),
         };
         match self {
             Failure::Refused(message) => Failure::Refused(named(message)),
@@ -38,10 +40,10 @@ impl Failure {
     pub fn report(self) -> u8 {
         let (message, status) = match self {
             Failure::Refused(message) => (format!("{message}\n"), 1),
-            Failure::Usage(message) => (
-                format!("tonschnecke: {message}\nTry 'tonschnecke help'.\n"),
-                2,
-            ),
+            Failure::Usage(message, help) => {
+                let try_help = format!("Try 'tonschnecke {help}'.");
+                (format!("tonschnecke: {message}\n{try_help}\n"), 2)
+            }
             Failure::Trouble(message) => (format!("tonschnecke: {message}\n"), 2),
             Failure::Nowhere(message) => (format!("tonschnecke: {message}\n"), 3),
             Failure::Busy(message) => (format!("tonschnecke: {message}\n"), 4),

@@ -1,5 +1,6 @@
 //! The plan's bytes, from a file or standard input.
 
+use crate::escape::shown;
 use crate::failure::Failure;
 use crate::lock::identity;
 use std::ffi::OsStr;
@@ -29,7 +30,7 @@ pub fn read(file: Option<&Path>) -> Result<Vec<u8>, Failure> {
 
 /// What to call the plan's file.
 pub fn name(file: Option<&Path>) -> String {
-    file.map_or("standard input".into(), |file| file.display().to_string())
+    file.map_or("standard input".into(), |file| shown(file.as_os_str()))
 }
 
 /// Standard input; who sits before it is told what is awaited.

@@ -1,5 +1,6 @@
 //! Options told apart from words, before either is understood.
 
+use crate::escape::shown;
 use std::collections::BTreeMap;
 use std::ffi::{OsStr, OsString};
 use std::os::unix::ffi::{OsStrExt, OsStringExt};
@@ -119,12 +120,17 @@ fn option(
     match (known, attached) {
         (Some((name, true)), Some(value)) => Ok((name, OsString::from_vec(value.to_vec()))),
         (Some((name, true)), None) => match rest.next() {
+            // Who means the text says so, with the sign.
+            Some(value) if OPTIONS.iter().any(|(option, _)| value == *option) => Err(format!(
+                "{name} needs a value, and {} is an option",
+                shown(&value)
+            )),
             Some(value) => Ok((name, value)),
             None => Err(format!("{name} needs a value")),
         },
         (Some((name, false)), None) => Ok((name, OsString::new())),
         (Some((name, false)), Some(_)) => Err(format!("{name} takes no value")),
-        (None, _) => Err(format!("unknown option {}", argument.display())),
+        (None, _) => Err(format!("unknown option {}", shown(argument))),
     }
 }
 

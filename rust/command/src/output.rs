@@ -18,8 +18,6 @@ pub enum Destination {
     File(PathBuf),
     /// The plan's own file.
     InPlace(PathBuf),
-    /// A dry run.
-    Nothing,
 }
 
 /// A destination found; locked already if the plan is read from it.
@@ -50,12 +48,12 @@ impl<'a> Output<'a> {
     /// To be called before the plan is read.
     pub fn find(job: &'a Job) -> Result<Self, Failure> {
         let mut output = Output::standard();
+        if job.dry_run {
+            output.way = Way::Nothing;
+            return Ok(output);
+        }
         (output.act, output.file) = match &job.destination {
             Destination::StandardOutput => return Ok(output),
-            Destination::Nothing => {
-                output.way = Way::Nothing;
-                return Ok(output);
-            }
             Destination::File(file) => ("write to", file),
             Destination::InPlace(file) => ("replace", file),
         };

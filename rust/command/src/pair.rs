@@ -1,9 +1,11 @@
 //! The pair to put in, and where: as people type it.
 
+use crate::escape::shown;
+use crate::meant::Role;
 use crate::options::{number, Given};
-use std::ffi::{OsStr, OsString};
+use std::ffi::OsStr;
 use std::os::unix::ffi::{OsStrExt, OsStringExt};
-use tonschnecke::{serialized, Key, Path};
+use tonschnecke::{serialized, Key, Kind, Path, Plan};
 
 /// A pair, and where it goes.
 #[derive(Debug, Clone)]
@@ -49,7 +51,7 @@ fn array(given: &mut Given) -> Result<Array, String> {
             .map_err(|error| unfit(name, &text, &error.to_string())),
         _ => number(&text)
             .map(Array::Node)
-            .ok_or_else(|| unfit(name, &text, "no number of 64 bits")),
+            .ok_or_else(|| unfit(name, &text, "an index is a whole number, 0 or more")),
     }
 }
 
@@ -60,10 +62,14 @@ fn place(given: &mut Given) -> Result<Place, String> {
             Some(index) => Ok(Place::Index(index)),
             None if text == "end" => Ok(Place::End),
             None => {
-                let message = "neither a number of 64 bits nor the word end";
+                let message = "neither a whole number, 0 or more, nor the word end";
                 Err(unfit(name, &text, message))
             }
         };
+    }
+    if let Some(key) = serialized_key(text.as_bytes()) {
+        let message = format!("here a key is written as in a path: {key}");
+        return Err(unfit(name, &text, &message));
     }
     let key = Key::parse(text.as_bytes());
     let place = match name {
@@ -72,6 +78,15 @@ fn place(given: &mut Given) -> Result<Place, String> {
     };
     key.map(place)
         .map_err(|error| unfit(name, &text, &error.to_string()))
+}
+
+/// The key that the text is serialized.
+fn serialized_key(text: &[u8]) -> Option<Key<'static>> {
+    match Plan::read(text).ok()?.root().kind() {
+        Kind::Integer(integer) => Some(integer.into()),
+        Kind::String(bytes) => Some(Key::from(bytes).into_owned()),
+        _ => None,
+    }
 }
 
 fn key(given: &mut Given) -> Result<Vec<u8>, String> {
@@ -93,20 +108,33 @@ fn value(given: &mut Given) -> Result<Vec<u8>, String> {
     match name {
         "--value" => Ok(text.into_vec()),
         "--int" => integer(name, &text),
-        "--float" => Ok(serialized::float(text.as_bytes())),
+        "--float" => float(name, &text),
         "--string" => Ok(serialized::string(text.as_bytes())),
         "--null" => Ok(serialized::null()),
         _ => Ok(serialized::boolean(name == "--true")),
     }
 }
 
-fn integer(name: &str, text: &OsString) -> Result<Vec<u8>, String> {
+fn integer(name: &str, text: &OsStr) -> Result<Vec<u8>, String> {
     let integer = text.to_str().and_then(|text| text.parse().ok());
     integer
         .map(serialized::integer)
         .ok_or_else(|| unfit(name, text, "no integer of 64 bits"))
 }
 
+/// The library says what is a float.
+fn float(name: &str, text: &OsStr) -> Result<Vec<u8>, String> {
+    let float = serialized::float(text.as_bytes());
+    if Role::Value.fits(&float) {
+        return Ok(float);
+    }
+    Err(unfit(
+        name,
+        text,
+        "no float; it has digits and a point, as 9.5",
+    ))
+}
+
 fn unfit(name: &str, text: &OsStr, message: &str) -> String {
-    format!("{name} {}: {message}", text.display())
+    format!("{name} {}: {message}", shown(text))
 }

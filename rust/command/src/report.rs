@@ -1,6 +1,7 @@
 //! What an edit did, said on standard error.
 
 use crate::arguments::Job;
+use crate::input;
 use crate::output::Destination;
 use std::io::{self, Write};
 use tonschnecke::lent::Insertion;
@@ -11,12 +12,18 @@ pub fn say(job: &Job, sentence: impl FnOnce() -> String) {
     if !job.report {
         return;
     }
-    let (file, dry_run) = match &job.destination {
-        Destination::StandardOutput => (None, ""),
-        Destination::File(file) | Destination::InPlace(file) => (Some(file), ""),
-        Destination::Nothing => (job.file.as_ref(), "dry run, nothing is written: "),
+    let file = match &job.destination {
+        Destination::File(file) | Destination::InPlace(file) => Some(file),
+        // Whose plan it is has to be told where there are several.
+        Destination::StandardOutput => job.file.as_ref().filter(|_| job.heading),
     };
-    let file = file.map_or(String::new(), |file| format!("{}: ", file.display()));
+    let file = file.map_or(String::new(), |file| {
+        format!("{}: ", input::name(Some(file)))
+    });
+    let dry_run = match job.dry_run {
+        true => "dry run, nothing is written: ",
+        false => "",
+    };
     let line = format!("{file}{dry_run}{}\n", sentence());
     // The plan is written: where standard error fails, the status still says so.
     let _ = io::stderr().write_all(line.as_bytes());

@@ -11,7 +11,7 @@ use tonschnecke::{Kind, Nowhere, Plan, Value};
 
 /// Nothing is written before the library has accepted.
 pub fn run(job: &Job) -> Result<(), Failure> {
-    let of_file = |failure: Failure| failure.of(job.file.as_deref());
+    let of_file = |failure: Failure| failure.of(job.file.as_deref(), job.heading);
     Task::start(job)
         .and_then(|task| task.perform())
         .map_err(of_file)

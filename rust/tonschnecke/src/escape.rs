@@ -52,10 +52,14 @@ pub fn printable(character: char) -> bool {
 /// ```
 /// use tonschnecke::escape::{quoted, shortened};
 /// assert_eq!(shortened(b"basin", 3, quoted), "\"bas\"...");
+/// assert_eq!(shortened("März".as_bytes(), 2, quoted), "\"M\"...");
 /// ```
 pub fn shortened(bytes: &[u8], limit: usize, show: impl Fn(&[u8]) -> String) -> String {
-    match bytes.get(..limit) {
-        Some(start) if start.len() < bytes.len() => show(start) + "...",
-        _ => show(bytes),
+    if bytes.len() <= limit {
+        return show(bytes);
     }
+    // No character is parted.
+    let within = |end: &usize| bytes[*end] & 0xC0 == 0x80;
+    let end = (0..=limit).rev().take(4).find(|end| !within(end));
+    show(&bytes[..end.unwrap_or(limit)]) + "..."
 }

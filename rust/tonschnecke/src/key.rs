@@ -5,6 +5,7 @@ use crate::path::PathSyntax;
 use crate::serialized;
 use std::borrow::Cow;
 use std::fmt;
+use std::str::FromStr;
 
 /// A key. It is shown as the component of a path that leads back to it.
 ///
@@ -14,7 +15,7 @@ use std::fmt;
 /// assert_eq!(Key::from("5").to_string(), "\"5\"");
 /// assert_eq!(Key::from(5).to_string(), "5");
 /// ```
-#[derive(Clone, Debug, PartialEq, Eq, PartialOrd, Ord, Hash)]
+#[derive(Clone, PartialEq, Eq, PartialOrd, Ord, Hash)]
 pub enum Key<'a> {
     /// `i`
     Integer(i64),
@@ -22,21 +23,41 @@ pub enum Key<'a> {
     String(Cow<'a, [u8]>),
 }
 
-impl From<i64> for Key<'_> {
-    fn from(integer: i64) -> Self {
-        Key::Integer(integer)
+macro_rules! from {
+    ($($type:ty, $given:ident => $key:expr;)*) => {
+        $(impl<'a> From<$type> for Key<'a> {
+            fn from($given: $type) -> Self {
+                $key
+            }
+        })*
+    };
+}
+
+from! {
+    i64, integer => Key::Integer(integer);
+    i32, integer => Key::Integer(integer.into());
+    u32, integer => Key::Integer(integer.into());
+    &'a str, text => Key::String(text.as_bytes().into());
+    &'a String, text => Key::String(text.as_bytes().into());
+    &'a [u8], bytes => Key::String(bytes.into());
+    Vec<u8>, bytes => Key::String(bytes.into());
+    &'a Key<'_>, key => match key {
+        Key::Integer(integer) => Key::Integer(*integer),
+        Key::String(bytes) => Key::String(Cow::Borrowed(bytes)),
+    };
+}
+
+impl<'a, const N: usize> From<&'a [u8; N]> for Key<'a> {
+    fn from(bytes: &'a [u8; N]) -> Self {
+        Key::String(bytes[..].into())
     }
 }
 
-impl<'a> From<&'a str> for Key<'a> {
-    fn from(text: &'a str) -> Self {
-        Key::String(text.as_bytes().into())
-    }
-}
+impl FromStr for Key<'static> {
+    type Err = PathSyntax;
 
-impl<'a> From<&'a [u8]> for Key<'a> {
-    fn from(bytes: &'a [u8]) -> Self {
-        Key::String(bytes.into())
+    fn from_str(component: &str) -> Result<Self, PathSyntax> {
+        Key::parse(component.as_bytes())
     }
 }
 
@@ -79,6 +100,14 @@ impl Key<'_> {
         match self {
             Key::Integer(integer) => serialized::integer(*integer),
             Key::String(bytes) => serialized::string(bytes),
+        }
+    }
+
+    /// The string key that is written as this integer key is, or the other way round.
+    pub(crate) fn counterpart(&self) -> Option<Key<'static>> {
+        match self {
+            Key::Integer(integer) => Some(Key::String(integer.to_string().into_bytes().into())),
+            Key::String(bytes) => integer(bytes).map(Key::Integer),
         }
     }
 
@@ -131,6 +160,12 @@ impl fmt::Display for Key<'_> {
     }
 }
 
+impl fmt::Debug for Key<'_> {
+    fn fmt(&self, out: &mut fmt::Formatter<'_>) -> fmt::Result {
+        write!(out, "Key({self})")
+    }
+}
+
 /// What stands unescaped in a component: nothing that a shell, the syntax or a tree takes for its
 /// own.
 fn plain(character: char) -> bool {
@@ -162,6 +197,29 @@ mod tests {
         for (key, component) in cases {
             assert_eq!(key.to_string(), component);
         }
+    }
+
+    #[test]
+    fn keys_are_made_of_what_is_at_hand() {
+        let (text, bytes) = (String::from("5"), vec![b'5']);
+        let strings: [Key; 5] = [
+            "5".into(),
+            (&text).into(),
+            b"5".into(),
+            b"5"[..].into(),
+            bytes.into(),
+        ];
+        assert!(strings
+            .iter()
+            .all(|key| *key == Key::String(b"5"[..].into())));
+        let integers: [Key; 3] = [5_i64.into(), 5_i32.into(), 5_u32.into()];
+        assert!(integers.iter().all(|key| *key == Key::Integer(5)));
+        assert_eq!(Key::from(&strings[0]), strings[0]);
+        assert_eq!("5".parse(), Ok(Key::Integer(5)));
+        assert_eq!(
+            format!("{:?} {:?}", strings[0], integers[0]),
+            "Key(\"5\") Key(5)"
+        );
     }
 
     #[test]

@@ -5,7 +5,16 @@ use std::error::Error;
 use std::fmt;
 use std::str::FromStr;
 
-/// The keys that lead from the root to a value.
+/// The keys that lead from the root to a value. Its text has a slash before each key, and is `/`
+/// for the root itself:
+///
+/// - A component that is an integer of 64 bits in shortest decimal form is an integer key: `2`,
+///   `-7`. Any other is a string key: `months`, `02`.
+/// - In double quotes it is always a string key: `"2"`, and `""` for the empty one.
+/// - `%HH`, two hexadecimal digits, is any byte: `%2F` a slash, `%22` a quote, `%25` a percent
+///   sign.
+///
+/// What is shown of a path leads back.
 ///
 /// ```
 /// use tonschnecke::{Key, Path};
@@ -14,7 +23,7 @@ use std::str::FromStr;
 /// assert_eq!(path.to_string(), "/months/2/05");
 /// # Ok::<(), tonschnecke::PathSyntax>(())
 /// ```
-#[derive(Clone, Debug, PartialEq, Eq, PartialOrd, Ord, Hash)]
+#[derive(Clone, PartialEq, Eq, PartialOrd, Ord, Hash)]
 pub struct Path<'a> {
     keys: Vec<Key<'a>>,
 }
@@ -67,6 +76,12 @@ impl fmt::Display for Path<'_> {
     }
 }
 
+impl fmt::Debug for Path<'_> {
+    fn fmt(&self, out: &mut fmt::Formatter<'_>) -> fmt::Result {
+        write!(out, "Path({self})")
+    }
+}
+
 /// Why a text is no path.
 #[derive(Clone, Copy, Debug, PartialEq, Eq)]
 pub enum PathSyntax {
@@ -105,15 +120,24 @@ pub struct Nowhere {
     pub path: Path<'static>,
     /// The key that it does not have.
     pub key: Key<'static>,
+    /// The key that it has instead, which is written alike: the string `"2"` for the integer 2.
+    pub near: Option<Key<'static>>,
     /// What it is, if it holds no pairs at all.
     pub is: Option<String>,
 }
 
 impl fmt::Display for Nowhere {
     fn fmt(&self, out: &mut fmt::Formatter<'_>) -> fmt::Result {
-        let Nowhere { path, key, is } = self;
-        write!(out, "{path} has no key {key}")?;
-        is.iter().try_for_each(|is| write!(out, ": it is {is}"))
+        write!(out, "{} has no key {}", self.path, self.key)?;
+        if let Some(near) = &self.near {
+            let kind = match near {
+                Key::Integer(_) => "integer",
+                Key::String(_) => "string",
+            };
+            write!(out, ", but the {kind} key {near}")?;
+        }
+        let mut is = self.is.iter();
+        is.try_for_each(|is| write!(out, ": it is {is}"))
     }
 }
 
@@ -137,7 +161,14 @@ impl fmt::Display for PathError {
     }
 }
 
-impl Error for PathError {}
+impl Error for PathError {
+    fn source(&self) -> Option<&(dyn Error + 'static)> {
+        Some(match self {
+            PathError::Syntax(error) => error,
+            PathError::Nowhere(error) => error,
+        })
+    }
+}
 
 impl From<PathSyntax> for PathError {
     fn from(error: PathSyntax) -> Self {

@@ -41,7 +41,7 @@ pub struct Plan {
 const NO_HOLDER: u32 = u32::MAX;
 
 impl Plan {
-    /// Reads the bytes.
+    /// Reads the bytes, which are copied. Like every service it takes up to 71,000 bytes of stack.
     ///
     /// # Errors
     ///
@@ -53,12 +53,12 @@ impl Plan {
     /// assert_eq!(Plan::read("N;;").unwrap_err().reason, Reason::TrailingBytes);
     /// # Ok::<(), tonschnecke::Refusal>(())
     /// ```
-    pub fn read(source: impl Into<Vec<u8>>) -> Result<Plan, Refusal> {
-        let source = source.into();
+    pub fn read(source: impl AsRef<[u8]>) -> Result<Plan, Refusal> {
+        let source = source.as_ref();
         let mut table = vec![0; table_words(source.len())];
-        let reading = lent::read(&source, &mut table)?;
+        let reading = lent::read(source, &mut table)?;
         let (rows, _) = table.as_chunks();
-        Ok(Plan::of(source, &rows[..reading.nodes]))
+        Ok(Plan::of(source.to_vec(), &rows[..reading.nodes]))
     }
 
     /// The plan of these bytes, whose nodes the library left in these rows.
@@ -231,6 +231,12 @@ impl Plan {
             Kind::String(bytes) => Key::String(bytes.into()),
             kind => unreachable!("the library promises no such key: {kind:?}"),
         }
+    }
+}
+
+impl AsRef<[u8]> for Plan {
+    fn as_ref(&self) -> &[u8] {
+        self.bytes()
     }
 }
 

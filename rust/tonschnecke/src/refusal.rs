@@ -8,7 +8,7 @@ use std::fmt;
 macro_rules! reasons {
     ($($(#[$about:meta])* $name:ident = $code:literal, $sentence:literal;)*) => {
         /// Why a service refused. The order is that of the library's numbers.
-        #[derive(Clone, Copy, Debug, PartialEq, Eq, Hash)]
+        #[derive(Clone, Copy, Debug, PartialEq, Eq, PartialOrd, Ord, Hash)]
         pub enum Reason {
             $($(#[$about])* $name = $code,)*
         }
@@ -43,7 +43,7 @@ reasons! {
     UnknownOrdinal = 6, "the reference names a number that no earlier value carries";
     /// The table has no room; see [`table_words`](crate::lent::table_words).
     TableFull = 7, "the table has no room for the node";
-    /// A value stands deeper than 64, or would if it were inserted.
+    /// A value stands deeper than 64, or would if it were inserted; the plan itself has depth 1.
     TooDeep = 8, "the value stands deeper than 64";
     /// A key equals an earlier key of its container, or an inserted one equals a key of its array.
     EqualKey = 9, "the container has this key already";

@@ -42,7 +42,8 @@ impl fmt::Display for Tree<'_> {
         let mut places: Vec<usize> = Vec::new();
         for value in self.plan.values() {
             let Some(key) = value.key() else { continue };
-            let depth = value.depth();
+            // Below the root, which has depth 1.
+            let depth = value.depth() - 1;
             places.resize(depth, 0);
             let place = &mut places[depth - 1];
             write!(out, "{:1$}", "", 2 * depth)?;

@@ -7,6 +7,8 @@ use crate::path::{Nowhere, Path};
 use crate::plan::Plan;
 use crate::refusal::Refusal;
 use std::fmt;
+use std::hash::{Hash, Hasher};
+use std::iter::FusedIterator;
 
 /// How much of a long text is shown where it does not stand itself.
 const BRIEF_TEXT: usize = 40;
@@ -23,7 +25,7 @@ pub struct Value<'a> {
 }
 
 /// The nine kinds.
-#[derive(Clone, Copy, Debug, PartialEq, Eq)]
+#[derive(Clone, Copy, PartialEq, Eq, Hash)]
 pub enum Kind<'a> {
     /// `N`
     Null,
@@ -59,12 +61,36 @@ pub enum Kind<'a> {
 }
 
 /// The tags of the two references.
-#[derive(Clone, Copy, Debug, PartialEq, Eq)]
+#[derive(Clone, Copy, Debug, PartialEq, Eq, Hash)]
 pub enum ReferenceTag {
     /// `r`, which takes an ordinal of its own.
     Small,
     /// `R`, which takes none.
     Capital,
+}
+
+/// With texts as texts.
+impl fmt::Debug for Kind<'_> {
+    fn fmt(&self, out: &mut fmt::Formatter<'_>) -> fmt::Result {
+        match self {
+            Kind::Null => out.write_str("Null"),
+            Kind::Bool(truth) => write!(out, "Bool({truth})"),
+            Kind::Integer(integer) => write!(out, "Integer({integer})"),
+            Kind::Float(text) => write!(out, "Float({})", text.escape_ascii()),
+            Kind::String(bytes) => write!(out, "String(\"{}\")", bytes.escape_ascii()),
+            Kind::Array { count } => write!(out, "Array {{ count: {count} }}"),
+            Kind::Object { class_name, count } => {
+                let name = class_name.escape_ascii();
+                write!(out, "Object {{ class_name: \"{name}\", count: {count} }}")
+            }
+            Kind::Reference { tag, ordinal, node } => {
+                write!(
+                    out,
+                    "Reference {{ {tag:?}, ordinal: {ordinal}, node: {node} }}"
+                )
+            }
+        }
+    }
 }
 
 impl ReferenceTag {
@@ -130,7 +156,7 @@ impl<'a> Value<'a> {
         (ordinal != 0).then_some(ordinal as usize)
     }
 
-    /// The pairs that it holds; 0 for what holds none.
+    /// The pairs that it holds; 0 for what holds none. A reference holds none: it is not followed.
     pub fn count(self) -> usize {
         match self.kind() {
             Kind::Array { count } | Kind::Object { count, .. } => count,
@@ -138,7 +164,7 @@ impl<'a> Value<'a> {
         }
     }
 
-    /// The pairs that it holds, in order; none for what holds none.
+    /// The pairs that it holds, in order; none for what holds none, a reference among them.
     ///
     /// ```
     /// use tonschnecke::{Key, Plan};
@@ -155,7 +181,7 @@ impl<'a> Value<'a> {
         }
     }
 
-    /// The value with this key.
+    /// The value with this key. A reference has none: ask what it stands for, [`resolved`](Value::resolved).
     ///
     /// ```
     /// use tonschnecke::{Kind, Plan};
@@ -175,10 +201,12 @@ impl<'a> Value<'a> {
     /// # Errors
     ///
     /// It holds no pair with this key.
-    pub fn child(self, key: &Key<'_>) -> Result<Value<'a>, Nowhere> {
-        self.get(key.clone()).ok_or_else(|| Nowhere {
+    pub fn child<'k>(self, key: impl Into<Key<'k>>) -> Result<Value<'a>, Nowhere> {
+        let key = key.into();
+        self.get(&key).ok_or_else(|| Nowhere {
             path: self.path().into_owned(),
-            key: key.clone().into_owned(),
+            near: key.counterpart().filter(|near| self.get(near).is_some()),
+            key: key.into_owned(),
             is: match self.kind() {
                 Kind::Array { .. } | Kind::Object { .. } => None,
                 Kind::Reference { .. } => {
@@ -206,9 +234,9 @@ impl<'a> Value<'a> {
         children.position(|(_, value)| value.node == self.node)
     }
 
-    /// How many containers hold it, one in another.
+    /// How deep it stands: the root at depth 1, and nothing deeper than 64.
     pub fn depth(self) -> usize {
-        std::iter::successors(self.container(), |value| value.container()).count()
+        std::iter::successors(Some(self), |value| value.container()).count()
     }
 
     /// The path that leads to it.
@@ -262,12 +290,17 @@ impl<'a> Value<'a> {
     /// assert_eq!(new.bytes(), b"a:3:{i:0;d:8;i:1;d:9.5;i:3;R:3;}");
     /// # Ok::<(), tonschnecke::Refusal>(())
     /// ```
-    pub fn insert(self, place: usize, key: &[u8], value: &[u8]) -> Result<Plan, Refusal> {
+    pub fn insert(
+        self,
+        place: usize,
+        key: impl AsRef<[u8]>,
+        value: impl AsRef<[u8]>,
+    ) -> Result<Plan, Refusal> {
         self.plan.insert(Insertion {
             array_node: self.node,
             pair_index: place,
-            key,
-            value,
+            key: key.as_ref(),
+            value: value.as_ref(),
         })
     }
 
@@ -301,12 +334,18 @@ impl<'a> Value<'a> {
     }
 
     fn reference(self, tag: ReferenceTag, node: usize) -> String {
-        let path = Value::new(self.plan, node).path();
+        let named = Value::new(self.plan, node).named();
+        format!("{} to {named}", tag.letter())
+    }
+
+    /// Its path, unless it is long.
+    fn named(self) -> String {
+        let path = self.path();
         let length: usize = path.keys().iter().map(Key::string_len).sum();
         if length <= LONG_PATH {
-            format!("{} to {path}", tag.letter())
+            path.to_string()
         } else {
-            format!("{} to node {node}", tag.letter())
+            format!("node {}", self.node)
         }
     }
 }
@@ -330,7 +369,7 @@ impl fmt::Display for Value<'_> {
 
 impl fmt::Debug for Value<'_> {
     fn fmt(&self, out: &mut fmt::Formatter<'_>) -> fmt::Result {
-        write!(out, "Value({}: {})", self.path(), self.brief())
+        write!(out, "Value({}: {})", self.named(), self.brief())
     }
 }
 
@@ -342,6 +381,22 @@ impl PartialEq for Value<'_> {
 }
 
 impl Eq for Value<'_> {}
+
+impl Hash for Value<'_> {
+    fn hash<H: Hasher>(&self, state: &mut H) {
+        (std::ptr::from_ref(self.plan), self.node).hash(state);
+    }
+}
+
+/// Its pairs, as [`children`](Value::children) gives them.
+impl<'a> IntoIterator for Value<'a> {
+    type Item = (Key<'a>, Value<'a>);
+    type IntoIter = Children<'a>;
+
+    fn into_iter(self) -> Children<'a> {
+        self.children()
+    }
+}
 
 /// The pairs of a container, in order.
 #[derive(Clone, Debug)]
@@ -370,3 +425,5 @@ impl<'a> Iterator for Children<'a> {
 }
 
 impl ExactSizeIterator for Children<'_> {}
+
+impl FusedIterator for Children<'_> {}

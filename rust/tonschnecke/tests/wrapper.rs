@@ -60,15 +60,15 @@ fn values_know_where_they_stand() {
     let array = null.container().unwrap();
     assert_eq!(
         (null.key(), null.place(), null.depth()),
-        (Some(0.into()), Some(0), 2)
+        (Some(0.into()), Some(0), 3)
     );
     assert_eq!(
         (array.key(), array.place(), array.depth()),
-        (Some("a".into()), Some(3), 1)
+        (Some("a".into()), Some(3), 2)
     );
     assert_eq!(array.container(), Some(plan.root()));
     let root = plan.root();
-    assert_eq!((root.key(), root.place(), root.depth()), (None, None, 0));
+    assert_eq!((root.key(), root.place(), root.depth()), (None, None, 1));
     assert_eq!(root.container(), None);
     assert_eq!(plan.path("/R").unwrap().target(), Some(array));
     assert_eq!(array.target(), None);
@@ -96,6 +96,7 @@ fn paths_that_lead_nowhere_say_from_where_on() {
     let cases = [
         ("/x", "/ has no key x"),
         ("/a/1/2", "/a has no key 1"),
+        ("/a/\"0\"", "/a has no key \"0\", but the integer key 0"),
         ("/a/0/2", "/a/0 has no key 2: it is null"),
         ("/d/x", "/d has no key x: it is .5"),
         (
@@ -107,6 +108,53 @@ fn paths_that_lead_nowhere_say_from_where_on() {
     for (path, error) in cases {
         assert_eq!(plan.path(path).unwrap_err().to_string(), error);
     }
+}
+
+#[test]
+fn a_key_written_alike_is_told() {
+    let plan = Plan::read("a:2:{s:1:\"2\";N;i:3;N;}").unwrap();
+    let error = plan.path("/2").unwrap_err();
+    assert_eq!(
+        error.to_string(),
+        "/ has no key 2, but the string key \"2\""
+    );
+    let source = std::error::Error::source(&error).expect("why");
+    assert_eq!(source.to_string(), error.to_string());
+    assert_eq!(plan.path("/4").unwrap_err().to_string(), "/ has no key 4");
+}
+
+#[test]
+fn depth_is_counted_as_the_limit_is() {
+    let source = "a:1:{i:0;".repeat(63) + "a:0:{}" + &"}".repeat(63);
+    let plan = Plan::read(source).unwrap();
+    let depths = plan.values().map(|value| value.depth());
+    assert_eq!(depths.collect::<Vec<_>>(), Vec::from_iter(1..=64));
+    let deepest = plan.values().next_back().unwrap();
+    let refusal = deepest.insert(0, "i:0;", "N;").unwrap_err();
+    assert_eq!(refusal.reason, Reason::TooDeep);
+}
+
+#[test]
+fn what_is_shown_for_programmers_is_readable() {
+    let plan = Plan::read(DAY).unwrap();
+    let shown = plan.path("/a/june").map(|value| value.kind());
+    assert_eq!(
+        format!("{shown:?}"),
+        "Err(Nowhere(Nowhere { path: Path(/a), key: Key(june), near: None, is: None }))"
+    );
+    let kinds: Vec<String> = plan
+        .values()
+        .map(|value| format!("{:?}", value.kind()))
+        .collect();
+    assert_eq!(
+        kinds.join(" "),
+        "Object { class_name: \"Day\", count: 6 } Integer(-7) Float(.5) Bool(true) Array { count: 1 } Null \
+         Reference { Small, ordinal: 1, node: 0 } Reference { Capital, ordinal: 5, node: 8 }"
+    );
+    assert_eq!(
+        format!("{:?}", plan.path("/R").unwrap()),
+        "Value(/R: R to /a, array of 1)"
+    );
 }
 
 #[test]

@@ -75,7 +75,12 @@ fn beside_each_key_of_a_month() {
 fn beside_a_key_that_there_is_not() {
     for (array, place, status, error) in [
         ("/", "--before=2", 3, "tonschnecke: / has no key 2\n"),
-        ("/", "--after=5", 3, "tonschnecke: / has no key 5\n"),
+        (
+            "/",
+            "--after=5",
+            3,
+            "tonschnecke: / has no key 5, but the string key \"5\"\n",
+        ),
         // What is no array is the library's to refuse.
         (
             "/1",
@@ -139,23 +144,4 @@ fn texts_of_any_bytes() {
     let bytes = OsStr::from_bytes(b"\xff\x01\"");
     let arguments = arguments.map(OsStr::new).into_iter().chain([bytes]);
     pipe(b"a:0:{}", arguments).gives(b"a:1:{i:1;s:3:\"\xff\x01\"\";}");
-}
-
-#[test]
-fn a_text_that_is_no_float() {
-    for text in ["9,5", "", "9.5;i:3", "x"] {
-        let arguments = [
-            "insert",
-            "--array=/",
-            "--at=0",
-            "--int-key=7",
-            "--float",
-            text,
-        ];
-        let ran = pipe(PLAN, arguments);
-        assert_eq!(ran.status, Some(1), "{text}");
-        let error =
-            format!("refused 13 at 0: the value is not exactly one N, b, i, d or s\n  d:{text};\n");
-        assert!(ran.error.starts_with(&error), "{}", ran.error);
-    }
 }

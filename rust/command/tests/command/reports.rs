@@ -74,17 +74,18 @@ fn of_a_dry_run_which_writes_nothing() {
     let folder = Folder::new();
     let plan = folder.file("plan", "a:01:{i:+0;N;}");
     let (plan, new) = (plan.to_str().unwrap(), folder.path("new"));
+    let new = new.to_str().unwrap();
     let destinations = [
-        vec![],
-        vec!["--in-place"],
-        vec!["-o", new.to_str().unwrap()],
+        (vec![], String::new()),
+        (vec!["--in-place"], format!("{plan}: ")),
+        (vec!["-o", new], format!("{new}: ")),
     ];
-    for destination in destinations {
+    for (destination, file) in destinations {
         let dry_run = |job: &[&str], done: &str| {
             let ran = run([job, &["--dry-run"], &destination].concat());
             said(
                 &ran,
-                &format!("{plan}: dry run, nothing is written: {done}\n"),
+                &format!("{file}dry run, nothing is written: {done}\n"),
             );
             assert_eq!(ran.out, b"");
         };

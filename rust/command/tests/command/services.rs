@@ -15,6 +15,9 @@ fn gives(source: &[u8], arguments: &[&str], expected: impl AsRef<[u8]>) {
     run([&[arguments[0], file], &arguments[1..]].concat()).gives(&expected);
     pipe(source, arguments).gives(&expected);
     pipe(source, [arguments, &["-"]].concat()).gives(&expected);
+    pipe(source, [arguments, &["-o", "-"]].concat()).gives(&expected);
+    run([arguments, &[file, &format!("-o{out_name}")]].concat()).gives("");
+    assert_eq!(fs::read(&out).unwrap(), expected.as_ref());
     run([arguments, &[file, "-o", out_name]].concat()).gives("");
     assert_eq!(fs::read(&out).unwrap(), expected.as_ref());
     fs::remove_file(&out).unwrap();

@@ -60,6 +60,26 @@ fn are_replaced_each() {
 }
 
 #[test]
+fn a_dry_run_names_each() {
+    let (ran, _) = in_folder("canonical --dry-run a b");
+    let said = "a: dry run, nothing is written: the canonical text has 1 byte fewer\n\
+                b: dry run, nothing is written: the plan is canonical already\n";
+    assert_eq!((ran.status, ran.error.as_str()), (Some(0), said));
+    assert_eq!(ran.out, b"");
+}
+
+#[test]
+fn standard_input_has_a_name_among_others() {
+    let ran = pipe(b"N", ["show", "-", "/dev/null"]);
+    assert!(
+        ran.error.starts_with("standard input: refused 2 at 0: "),
+        "{}",
+        ran.error
+    );
+    assert!(pipe(b"N", ["show"]).error.starts_with("refused 2 at 0: "));
+}
+
+#[test]
 fn a_refusal_names_its_file() {
     let (ran, _) = in_folder("insert b --array / --at 0 --int-key 1 --null");
     ran.fails(1, "b: refused 11 at 0: / is true, and no array\n");

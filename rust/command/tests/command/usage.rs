@@ -3,7 +3,7 @@
 use crate::run::{command, pipe, run, Folder, Ran, YEAR};
 
 /// Arguments, parted by spaces, and what is said of them.
-const MISTAKES: [(&str, &str); 40] = [
+const MISTAKES: [(&str, &str); 43] = [
     ("", "a subcommand is missing"),
     ("--", "a subcommand is missing"),
     ("list", "unknown subcommand list"),
@@ -24,6 +24,18 @@ const MISTAKES: [(&str, &str); 40] = [
     ),
     ("nodes --places", "nodes takes no --places"),
     ("insert --null=x", "--null takes no value"),
+    (
+        "insert --string --in-place",
+        "--string needs a value, and --in-place is an option",
+    ),
+    (
+        "show a -o --quiet",
+        "-o needs a value, and --quiet is an option",
+    ),
+    (
+        "help show nodes",
+        "one subcommand is enough; what is nodes?",
+    ),
     ("show -o=file", "unknown option -o=file"),
     ("show --all=x", "unknown option --all=x"),
     ("show -o", "-o needs a value"),
@@ -83,20 +95,25 @@ const MISTAKES: [(&str, &str); 40] = [
 ];
 
 /// An option of inserting, its unfit value, and what is said of them.
-const UNFIT: [(&str, &str, &str); 17] = [
-    ("--node", "x", "no number of 64 bits"),
-    ("--node", "-1", "no number of 64 bits"),
-    ("--node", "", "no number of 64 bits"),
-    ("--at", "+1", "neither a number of 64 bits nor the word end"),
-    ("--at", "18446744073709551616", "neither a number of 64 bits nor the word end"),
-    ("--at", "End", "neither a number of 64 bits nor the word end"),
-    ("--wait", "1.5", "no number of 64 bits"),
-    ("--wait", "-1", "no number of 64 bits"),
+const UNFIT: [(&str, &str, &str); 22] = [
+    ("--node", "x", "an index is a whole number, 0 or more"),
+    ("--node", "-1", "an index is a whole number, 0 or more"),
+    ("--node", "", "an index is a whole number, 0 or more"),
+    ("--at", "+1", "neither a whole number, 0 or more, nor the word end"),
+    ("--at", "18446744073709551616", "neither a whole number, 0 or more, nor the word end"),
+    ("--at", "End", "neither a whole number, 0 or more, nor the word end"),
+    ("--wait", "1.5", "no count of whole seconds"),
+    ("--wait", "-1", "no count of whole seconds"),
     ("--before", "", "a path has no empty component; the empty string key is \"\""),
     ("--after", "%", "in a path, two hexadecimal digits follow each %"),
     ("--int-key", "29x", "no integer of 64 bits"),
     ("--int-key", "9223372036854775808", "no integer of 64 bits"),
     ("--int", "9.5", "no integer of 64 bits"),
+    ("--float", "9,5", "no float; it has digits and a point, as 9.5"),
+    ("--float", "", "no float; it has digits and a point, as 9.5"),
+    ("--float", "9.5;i:3", "no float; it has digits and a point, as 9.5"),
+    ("--after", "i:2;", "here a key is written as in a path: 2"),
+    ("--before", "s:3:\"a b\";", "here a key is written as in a path: a%20b"),
     ("--array", "months", "a path begins with /"),
     ("--array", "/a//", "a path has no empty component; the empty string key is \"\""),
     ("--array", "/a%2", "in a path, two hexadecimal digits follow each %"),
@@ -107,8 +124,12 @@ const UNFIT: [(&str, &str, &str); 17] = [
     ),
 ];
 
+/// Told, with the help that helps: that on the first subcommand which is named.
 fn mistaken(arguments: &[&str], message: &str) {
-    let error = format!("tonschnecke: {message}\nTry 'tonschnecke help'.\n");
+    let subcommands = ["nodes", "show", "canonical", "insert"];
+    let named = arguments.iter().find(|word| subcommands.contains(word));
+    let help = named.map_or("help".into(), |name| format!("help {name}"));
+    let error = format!("tonschnecke: {message}\nTry 'tonschnecke {help}'.\n");
     run(arguments).fails(2, &error);
 }
 
@@ -126,7 +147,7 @@ fn unfit_values_are_told() {
             "--at" | "--before" | "--after" => &["--node=0", "--key=i:1;", "--null"],
             "--wait" => &["--node=0", "--at=0", "--key=i:1;", "--null"],
             "--int-key" => &["--node=0", "--at=0", "--null"],
-            "--int" => &["--node=0", "--at=0", "--key=i:1;"],
+            "--int" | "--float" => &["--node=0", "--at=0", "--key=i:1;"],
             _ => &["--at=0", "--key=i:1;", "--null"],
         };
         let arguments = [&["insert", option, value], fit].concat();
@@ -140,7 +161,7 @@ fn paths_that_lead_nowhere() {
         ("/week", "/ has no key week"),
         ("/months/13", "/months has no key 13"),
         ("/months/13/1", "/months has no key 13"),
-        ("/months/\"1\"", "/months has no key \"1\""),
+        ("/months/\"1\"", "/months has no key \"1\", but the integer key 1"),
         ("/year/a%20b", "/year has no key a%20b: it is 2024"),
         (
             "/months/1/24/x",
