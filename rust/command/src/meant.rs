@@ -2,12 +2,16 @@
 //! guesses: each is put to the library, and none is told that it would refuse again.
 
 mod guesses;
+mod number;
+mod quotes;
 mod shape;
 #[cfg(test)]
 mod tests;
+mod word;
 
 use guesses::guesses;
-use shape::{is_integer, shape, Shape};
+use number::is_integer;
+use shape::{shape, Shape};
 use std::fmt;
 use tonschnecke::escape::printable;
 use tonschnecke::{Plan, Reason};
@@ -40,14 +44,18 @@ impl Role {
 pub struct Meant {
     /// What is wrong, in words that stand alone.
     why: String,
-    /// A fit text; none where nothing fit can be meant.
+    /// A fit text; none where it is doubtful what is meant: wrong data is worse than none.
     text: Option<Vec<u8>>,
 }
 
 impl fmt::Display for Meant {
     fn fmt(&self, out: &mut fmt::Formatter<'_>) -> fmt::Result {
         match self.text.as_deref().and_then(copyable) {
-            Some(text) => write!(out, "probably meant: {text}   ({})", self.why),
+            Some(text) => {
+                // As a shell takes it.
+                let text = text.replace('\'', r"'\''");
+                write!(out, "probably meant: '{text}'   ({})", self.why)
+            }
             None => out.write_str(&self.why),
         }
     }
@@ -59,7 +67,7 @@ fn copyable(text: &[u8]) -> Option<&str> {
     (text.len() <= LONGEST && text.chars().all(printable)).then_some(text)
 }
 
-/// What was meant by a text; nothing is said of one that fits, or that nothing is known of.
+/// What was meant by a text; nothing is said of one that fits.
 pub fn meant(text: &[u8], role: Role) -> Option<Meant> {
     if role.fits(text) {
         return None;
@@ -73,33 +81,38 @@ pub fn meant(text: &[u8], role: Role) -> Option<Meant> {
             why: guess.why,
             text: Some(guess.text),
         }),
-        None => hopeless(text, role).map(|why| Meant {
-            why: why.into(),
+        None => Some(Meant {
+            why: hopeless(text, role).into(),
             text: None,
         }),
     }
 }
 
-/// Why nothing fit can be meant.
-fn hopeless(text: &[u8], role: Role) -> Option<&'static str> {
-    Some(match (shape(text), role) {
+/// Why nothing is told that is fit.
+fn hopeless(text: &[u8], role: Role) -> &'static str {
+    match (shape(text), role) {
         (Shape::Empty, _) => "nothing was given; the empty string is s:0:\"\";",
         (Shape::Followed { .. }, _) => "exactly one is put in, and more stands behind the first",
         (Shape::Grouped, _) => "a number has a point at most, and no groups: i:1000; or d:9.5;",
         (Shape::Lettered { letter: b'i', body } | Shape::Bare { body }, _) if is_integer(body) => {
             "an integer has at most 64 bits"
         }
-        (_, Role::Key) => guesses::KEY,
+        (Shape::Lettered { letter: b's', .. }, _) if text.starts_with(b"S") => {
+            "S has escapes: write the bytes that they mean, with s"
+        }
+        (Shape::Lettered { letter: b's', .. }, _) => {
+            "behind s: stand the length and the text, as in s:3:\"may\";"
+        }
+        (_, Role::Key) => "a key is an integer or a string: i:5; or s:3:\"may\";",
         (Shape::Container, _) => "an array or an object cannot be put in, only a plain value",
         (Shape::Reference, _) => "a reference cannot be put in, only a plain value",
-        (Shape::Lettered { letter, body }, _) => match letter {
-            b'i' => "between i: and ; stands an integer, as in i:29;",
-            b'd' => "between d: and ; stands a float, as in d:9.5;",
-            b'b' => guesses::BOOLEAN,
-            _ if body.is_empty() => "behind s: stand the length and the text, as in s:3:\"may\";",
-            _ if text.starts_with(b"S") => "S has escapes: write the bytes that they mean, with s",
-            _ => return None,
-        },
-        (Shape::Bare { .. }, _) => return None,
-    })
+        (Shape::Lettered { letter: b'i', .. }, _) => {
+            "between i: and ; stands an integer, as in i:29;"
+        }
+        (Shape::Lettered { letter: b'd', .. }, _) => {
+            "between d: and ; stands a float, as in d:9.5;"
+        }
+        (Shape::Lettered { .. }, _) => guesses::BOOLEAN,
+        (Shape::Bare { .. }, _) => "a value is N;, b:1;, i:5;, d:9.5; or s:3:\"may\";",
+    }
 }

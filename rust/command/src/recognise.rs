@@ -2,42 +2,20 @@
 //! stays the library's, and what begins a plan is asked of it.
 
 mod base64;
+mod json;
+mod starts;
 #[cfg(test)]
 mod tests;
 
-use tonschnecke::{Plan, Reason, Refusal};
+use json::is_json;
+use starts::by_start;
+use tonschnecke::{Plan, Reason, Refusal, SOURCE_LIMIT};
 
-const BOM: &str = "a byte order mark (BOM), which some editors write, stands before it; \
-                   without it: tail -c +4 FILE";
-const UTF_16: &str = "this is UTF-16; convert it first: iconv -f UTF-16 -t UTF-8 FILE";
-const ZLIB: &str = "this is zlib; unpack it first, in PHP with gzuncompress";
-const PRINTED: &str = "this is what PHP prints for people; let it write the plan with serialize";
-const JSON: &str = "this is JSON; in PHP, serialize(json_decode(...)) makes a plan of it";
+const JSON: &str = "this is JSON; in PHP, serialize(json_decode(..., true)) makes a plan of it; \
+                    classes and sharing are not in JSON";
+const JSON_STRING: &str = "this is a JSON string; in PHP, json_decode gives the plan";
 const SESSION: &str = "this is a PHP session, a plan behind each |; \
                        in PHP, serialize($_SESSION) makes one plan of all";
-
-/// What is known by its first bytes. No plan begins so.
-const STARTS: [(&[u8], &str); 13] = [
-    (b"\x1f\x8b", "this is gzip; unpack it first: gzip -dc FILE"),
-    (b"PK\x03\x04", "this is zip; unpack it first: unzip -p FILE"),
-    (
-        b"BZh91AY&SY",
-        "this is bzip2; unpack it first: bzip2 -dc FILE",
-    ),
-    (b"\xfd7zXZ\0", "this is xz; unpack it first: xz -dc FILE"),
-    (
-        b"\x28\xb5\x2f\xfd",
-        "this is zstd; unpack it first: zstd -dc FILE",
-    ),
-    (b"\x78\x9c", ZLIB),
-    (b"\x78\xda", ZLIB),
-    (b"\xef\xbb\xbf", BOM),
-    (b"\xff\xfe", UTF_16),
-    (b"\xfe\xff", UTF_16),
-    (b"array (", PRINTED),
-    (b"array(", PRINTED),
-    (b"Array\n(", PRINTED),
-];
 
 /// Letters that PHP knows and the library does not take.
 const LETTERS: [(u8, &str); 3] = [
@@ -60,18 +38,29 @@ pub fn recognise(source: &[u8], refusal: Refusal) -> Option<String> {
     let here = &source[refusal.at..];
     match refusal.reason {
         Reason::TrailingBytes if is_newline(here) => Some(format!(
-            "this is a newline at the end; without it: head -c {} FILE",
+            "this is a newline at the end; without it: head -c {} FILE > NEW",
             refusal.at
         )),
         Reason::ValueTag | Reason::KeyTag => letter(here).or_else(|| whole(source)),
         Reason::Malformed => string(here).or_else(|| whole(source)),
-        Reason::SourceTooLong => whole(source),
+        Reason::SourceTooLong => full(source).or_else(|| whole(source)),
         _ => None,
     }
 }
 
 fn is_newline(bytes: &[u8]) -> bool {
     bytes.iter().all(|byte| b"\r\n".contains(byte))
+}
+
+/// A plan as long as can be, and a newline. What else may follow was not read.
+fn full(source: &[u8]) -> Option<String> {
+    let (plan, rest) = source.split_at_checked(SOURCE_LIMIT)?;
+    (is_newline(rest) && Plan::read(plan).is_ok()).then(|| {
+        format!(
+            "its first {SOURCE_LIMIT} bytes are a plan, and a newline follows; \
+             without it: head -c {SOURCE_LIMIT} FILE > NEW"
+        )
+    })
 }
 
 fn letter(text: &[u8]) -> Option<String> {
@@ -95,7 +84,8 @@ fn string(text: &[u8]) -> Option<String> {
     } else if rest.starts_with(b"\\\"") {
         "backslashes were put before its quotes; take the plan as it was before"
     } else if counts_characters(digits, rest.strip_prefix(b"\"")?) {
-        "its length counts letters, not bytes: it was converted to UTF-8; take the plan as bytes"
+        "its length counts letters, not bytes; \
+         if it was converted to UTF-8, take the plan as bytes"
     } else {
         return None;
     };
@@ -114,17 +104,26 @@ fn counts_characters(digits: &[u8], text: &[u8]) -> bool {
 
 /// What the source is as a whole.
 fn whole(source: &[u8]) -> Option<String> {
-    let start = STARTS.iter().find(|(start, _)| source.starts_with(start));
+    if let Some(what) = by_start(source) {
+        return Some(what.into());
+    }
+    let unspaced = source.trim_ascii_start();
     let what = match source {
-        _ if start.is_some() => start?.1,
         [] => "it is empty",
-        [b'"' | b'\'', rest @ ..] if begins_plan(rest) => "quotes stand around it; take them away",
-        _ if source.trim_ascii_start() != source && begins_plan(source.trim_ascii_start()) => {
+        _ if json::unescaped(source).is_some_and(|text| begins_plan(&text)) => JSON_STRING,
+        [quote @ (b'"' | b'\''), rest @ ..] if begins_plan(rest) => {
+            if rest.trim_ascii_end().last() == Some(quote) {
+                "quotes stand around it; take them away"
+            } else {
+                "a quote stands before it; take it away"
+            }
+        }
+        _ if unspaced.len() < source.len() && begins_plan(unspaced) => {
             "blanks or newlines stand before it; take them away"
         }
         _ if is_json(source) => JSON,
         _ if is_session(source) => SESSION,
-        _ => base64::command(source, begins_plan)?,
+        _ => base64::advice(source, begins_plan)?,
     };
     Some(what.into())
 }
@@ -135,17 +134,6 @@ fn begins_plan(bytes: &[u8]) -> bool {
     match Plan::read(bytes) {
         Err(Refusal { reason, at: 0 }) => !matches!(reason, SourceTooLong | Malformed | ValueTag),
         _ => true,
-    }
-}
-
-fn is_json(source: &[u8]) -> bool {
-    let next = |rest: &[u8]| rest.trim_ascii_start().first().copied();
-    match source.trim_ascii() {
-        [b'{', rest @ .., b'}'] => next(rest) == Some(b'"'),
-        [b'[', rest @ .., b']'] => {
-            next(rest).is_some_and(|byte| b"{[\"-0123456789".contains(&byte))
-        }
-        _ => false,
     }
 }
 

@@ -56,7 +56,11 @@ fn wrong_with_plan(refusal: Refusal, source: &[u8]) -> String {
         return "the plan ends where a value or a key is due".into();
     };
     match FORMS.iter().find(|(letter, _)| letter == tag) {
-        Some((_, form)) => format!("the text that begins here is not of the form {form}"),
+        Some((_, form)) => {
+            format!(
+                "the text that begins here is not of the form {form}, or the plan ends too soon"
+            )
+        }
         None => refusal.reason.to_string(),
     }
 }

@@ -1,6 +1,9 @@
 //! Texts that may have been meant, the likeliest first.
 
-use super::shape::{after_colon, is_colon, is_integer, shape, unquoted, without_quotes, Shape};
+use super::number::{is_integer, numeral, pointed};
+use super::quotes::{closing, opening, plainly_unquoted, unquoted};
+use super::shape::{is_colon, shape, Shape};
+use super::word::{may_be_escaped, word};
 use super::Role;
 use tonschnecke::serialized;
 
@@ -12,6 +15,9 @@ const NULL: &str = "null is N;";
 const NO_INTEGER: &str = "an integer has no point; the letter of a float is d";
 const TOO_LARGE: &str = "an integer has at most 64 bits; a larger number is a float";
 const COMMA: &str = "a float has a point, no comma";
+const CAPITALS: &str = "INF and NAN are written in capitals";
+const END: &str = "the ; at the end is missing; \
+                   a shell takes it away unless it stands in single quotes";
 
 pub struct Guess {
     pub why: String,
@@ -29,7 +35,7 @@ fn guess(why: impl Into<String>, text: impl Into<Vec<u8>>) -> Guess {
 pub fn guesses(text: &[u8]) -> Vec<Guess> {
     let mut guesses = vec![
         guess("no blank or newline stands around it", text),
-        guess("the ; at the end is missing", [text, b";"].concat()),
+        guess(END, [text, b";"].concat()),
     ];
     if let Some(inside) = unquoted(text) {
         guesses.push(guess("no quotes stand around it", inside));
@@ -40,7 +46,7 @@ pub fn guesses(text: &[u8]) -> Vec<Guess> {
             .into_iter()
             .collect(),
         Shape::Lettered { letter, body } => of_kind(letter, text, body),
-        Shape::Bare { body } => bare(body),
+        Shape::Bare { body } => bare(text, body),
         Shape::Empty | Shape::Container | Shape::Reference | Shape::Grouped => Vec::new(),
     });
     guesses
@@ -53,10 +59,11 @@ fn only_marks(text: &[u8]) -> bool {
 /// Guesses for a text that begins with the letter of a plain kind.
 fn of_kind(letter: u8, text: &[u8], body: &[u8]) -> Vec<Guess> {
     let why = |otherwise: &str| spelling(letter, text).unwrap_or_else(|| otherwise.into());
+    let inside = unquoted(body).unwrap_or(body);
     match letter {
-        b'i' => numbers(without_quotes(body), &why(INTEGER), NO_INTEGER),
-        b'd' => floats(without_quotes(body), &why(FLOAT)),
-        b'b' => booleans(without_quotes(body), &why(BOOLEAN)),
+        b'i' => numbers(inside, &why(INTEGER), NO_INTEGER),
+        b'd' => floats(inside, &why(FLOAT)),
+        b'b' => booleans(inside, &why(BOOLEAN)),
         b'N' => vec![guess(why(NULL), "N;")],
         _ => strings(text, body),
     }
@@ -79,11 +86,12 @@ fn spelling(letter: u8, text: &[u8]) -> Option<String> {
 fn numbers(body: &[u8], integer: &str, float: &str) -> Vec<Guess> {
     let body = numeral(body);
     let float = if is_integer(&body) { TOO_LARGE } else { float };
-    vec![
-        guess(integer, framed("i:", &body, ";")),
-        guess(float, framed("d:", &body, ";")),
-        guess(COMMA, framed("d:", &pointed(&body), ";")),
-    ]
+    let mut guesses = vec![guess(integer, framed("i:", &body, ";"))];
+    // A point at the end may be a sentence's.
+    if !body.ends_with(b".") {
+        guesses.extend(floats(&body, float));
+    }
+    guesses
 }
 
 fn floats(body: &[u8], why: &str) -> Vec<Guess> {
@@ -91,26 +99,9 @@ fn floats(body: &[u8], why: &str) -> Vec<Guess> {
     vec![
         guess(why, framed("d:", &body, ";")),
         guess(COMMA, framed("d:", &pointed(&body), ";")),
-        guess(
-            "INF and NAN are written in capitals",
-            framed("d:", &body.to_ascii_uppercase(), ";"),
-        ),
+        guess(CAPITALS, framed("d:", &body.to_ascii_uppercase(), ";")),
         guess(KEY, framed("i:", &body, ";")),
     ]
-}
-
-/// With the minus of the keyboard for those of print.
-fn numeral(body: &[u8]) -> Vec<u8> {
-    let minus = ["\u{2212}", "\u{2013}"];
-    let digits = minus
-        .iter()
-        .find_map(|minus| body.strip_prefix(minus.as_bytes()));
-    digits.map_or(body.into(), |digits| framed("-", digits, ""))
-}
-
-fn pointed(body: &[u8]) -> Vec<u8> {
-    let point = |&byte: &u8| if byte == b',' { b'.' } else { byte };
-    body.iter().map(point).collect()
 }
 
 fn booleans(body: &[u8], why: &str) -> Vec<Guess> {
@@ -124,15 +115,16 @@ fn booleans(body: &[u8], why: &str) -> Vec<Guess> {
 
 /// A string whose length, quotes or letter are wrong.
 fn strings(text: &[u8], body: &[u8]) -> Vec<Guess> {
-    let (length, bytes) = length_and_bytes(body);
+    let Some((bytes, length)) = string(body) else {
+        return Vec::new();
+    };
     // PHP's S has escapes, which mean other bytes.
-    let escaped = text.starts_with(b"S") && bytes.contains(&b'\\');
-    if escaped || body.is_empty() {
+    if text.starts_with(b"S") && bytes.contains(&b'\\') {
         return Vec::new();
     }
     let count = bytes.len();
     let why = match length {
-        Some(length) if length.parse() != Ok(count) => {
+        Some(length) if length != count => {
             format!("the number behind s: counts bytes, and this text has {count}")
         }
         _ => spelling(b's', text).unwrap_or_else(|| string_form(count)),
@@ -140,37 +132,44 @@ fn strings(text: &[u8], body: &[u8]) -> Vec<Guess> {
     vec![guess(why, serialized::string(bytes))]
 }
 
-/// The digits of a length, where a colon or a quote follows them, and the bytes.
-fn length_and_bytes(body: &[u8]) -> (Option<&str>, &[u8]) {
+/// The bytes of a string, and its length, if there is one. A quote that is missing, one that may
+/// not be the last, and escapes leave open which bytes are meant, unless the length says it.
+fn string(body: &[u8]) -> Option<(&[u8], Option<usize>)> {
+    let sure = |text| plainly_unquoted(text).filter(|bytes| !may_be_escaped(bytes));
     let digits = body.iter().take_while(|byte| byte.is_ascii_digit()).count();
     let (digits, rest) = body.split_at(digits);
-    let quoted = unquoted(rest).is_some();
-    let length = str::from_utf8(digits)
-        .ok()
-        .filter(|digits| !digits.is_empty() && (quoted || rest.first().is_some_and(is_colon)));
-    let bytes = if length.is_some() {
-        after_colon(rest)
-    } else {
-        body
+    if digits.is_empty() {
+        let bytes = sure(body).or_else(|| word(body));
+        return bytes.map(|bytes| (bytes, None));
+    }
+    let bytes = rest.split_first().filter(|(mark, _)| is_colon(mark))?.1;
+    let quoted = bytes.trim_ascii_start();
+    let length = str::from_utf8(digits).ok()?.parse().unwrap_or(usize::MAX);
+    let inside = match unquoted(quoted) {
+        None if opening(quoted).is_none() && closing(quoted).is_none() => Some(bytes),
+        inside => inside,
     };
-    (length, without_quotes(bytes))
+    let counted = inside.filter(|bytes| bytes.len() == length);
+    let bytes = counted.or_else(|| sure(quoted))?;
+    Some((bytes, Some(length)))
 }
 
 /// Guesses for a text without letter: a number, a word of PHP's, a string.
-fn bare(body: &[u8]) -> Vec<Guess> {
+fn bare(text: &[u8], body: &[u8]) -> Vec<Guess> {
     let numbers = numbers(body, INTEGER, FLOAT);
     // A float is no key, and no string either.
     if numbers.iter().any(|guess| Role::Value.fits(&guess.text)) {
         return numbers;
     }
-    let mut guesses = match body.to_ascii_lowercase().as_slice() {
+    let mut guesses = match text.to_ascii_lowercase().as_slice() {
         b"true" => vec![guess(BOOLEAN, "b:1;")],
         b"false" => vec![guess(BOOLEAN, "b:0;")],
         b"null" => vec![guess(NULL, "N;")],
         _ => Vec::new(),
     };
-    let bytes = unquoted(body).unwrap_or(body);
-    guesses.push(guess(string_form(bytes.len()), serialized::string(bytes)));
+    if let Some(bytes) = word(text) {
+        guesses.push(guess(string_form(bytes.len()), serialized::string(bytes)));
+    }
     guesses
 }
 

@@ -1,9 +1,19 @@
 use super::*;
 
 const STRING_3: &str = "a string is in quotes, behind s: and its length in bytes, here 3";
+const STRING_2: &str = "a string is in quotes, behind s: and its length in bytes, here 2";
+const STRING_6: &str = "a string is in quotes, behind s: and its length in bytes, here 6";
+const STRING_7: &str = "a string is in quotes, behind s: and its length in bytes, here 7";
+const STRING_10: &str = "a string is in quotes, behind s: and its length in bytes, here 10";
 const STRING_5: &str = "a string is in quotes, behind s: and its length in bytes, here 5";
 const BLANK: &str = "no blank or newline stands around it";
-const END: &str = "the ; at the end is missing";
+const END: &str =
+    "the ; at the end is missing; a shell takes it away unless it stands in single quotes";
+const CAPITALS: &str = "INF and NAN are written in capitals";
+const BITS: &str = "an integer has at most 64 bits";
+const A_VALUE: &str = "a value is N;, b:1;, i:5;, d:9.5; or s:3:\"may\";";
+const A_KEY: &str = "a key is an integer or a string: i:5; or s:3:\"may\";";
+const NOTHING: &str = "nothing was given; the empty string is s:0:\"\";";
 const COLON: &str = "a colon stands behind the letter";
 const COMMA: &str = "a float has a point, no comma";
 const POINT: &str = "an integer has no point; the letter of a float is d";
@@ -35,7 +45,6 @@ const VALUES: &[(&str, &str, &str)] = &[
     ("9,5", "d:9.5;", COMMA),
     ("-0,125", "d:-0.125;", COMMA),
     ("1234,567", "d:1234.567;", COMMA),
-    ("d:1,000;", "d:1.000;", COMMA),
     ("1,000", "", GROUPS),
     ("-10,250", "", GROUPS),
     ("1.000,5", "", GROUPS),
@@ -43,17 +52,58 @@ const VALUES: &[(&str, &str, &str)] = &[
     ("1,000,000", "", GROUPS),
     ("1 000", "", GROUPS),
     ("1'000", "", GROUPS),
+    ("1_000", "", GROUPS),
+    ("1.000.000", "", GROUPS),
+    ("+1,250", "", GROUPS),
+    ("\u{2212}1,000", "", GROUPS),
+    ("\u{2013}1,000", "", GROUPS),
+    ("1,000e3", "", GROUPS),
+    ("1,000;", "", GROUPS),
+    ("01,000", "", GROUPS),
+    (",5", "", GROUPS),
+    ("d:1,000;", "", GROUPS),
+    ("d:1,250;", "", GROUPS),
+    ("d:1,000e3;", "", GROUPS),
+    ("d:\u{2212}1,000;", "", GROUPS),
+    ("d1,000;", "", GROUPS),
+    ("i:1,000;", "", GROUPS),
+    ("i:9,500;", "", GROUPS),
+    ("i:1.000;", "", GROUPS),
+    ("i:1.000.000;", "", GROUPS),
+    ("i:\"1,000\";", "", GROUPS),
+    ("i:\u{2013}1,000;", "", GROUPS),
+    ("0,125", "d:0.125;", COMMA),
+    ("d:0,125;", "d:0.125;", COMMA),
+    ("d:1234,567;", "d:1234.567;", COMMA),
+    ("\u{2212}9,5", "d:-9.5;", COMMA),
     ("d:9,5;", "d:9.5;", COMMA),
     ("d:9,5", "d:9.5;", COMMA),
     ("d:-9,5e3;", "d:-9.5e3;", COMMA),
     ("i:9,5;", "d:9.5;", COMMA),
     ("i:9.5;", "d:9.5;", POINT),
-    ("d:inf;", "d:INF;", "INF and NAN are written in capitals"),
+    ("d:inf;", "d:INF;", CAPITALS),
+    ("inf", "d:INF;", CAPITALS),
+    ("-Inf", "d:-INF;", CAPITALS),
+    ("\u{2212}inf", "d:-INF;", CAPITALS),
+    ("nan", "d:NAN;", CAPITALS),
+    ("NaN;", "d:NAN;", CAPITALS),
+    ("INF", "d:INF;", guesses::FLOAT),
+    ("infinity", "", A_VALUE),
     ("may", "s:3:\"may\";", STRING_3),
-    ("may;", "s:3:\"may\";", STRING_3),
-    ("+ -", "s:3:\"+ -\";", STRING_3),
+    ("may;", "", A_VALUE),
+    ("may,", "", A_VALUE),
+    ("true;", "", A_VALUE),
+    ("\"may\";", "", A_VALUE),
+    ("\"may", "", A_VALUE),
+    ("may\"", "", A_VALUE),
+    ("\"may'", "", A_VALUE),
+    ("\u{201d}may\u{201c}", "", A_VALUE),
+    ("\"may\" \"june\"", "", A_VALUE),
+    ("may;june", "", A_VALUE),
+    ("+ -", "", A_VALUE),
+    ("n", "", A_VALUE),
+    ("d", "", A_VALUE),
     ("\"may\"", "s:3:\"may\";", STRING_3),
-    ("\"may\";", "s:3:\"may\";", STRING_3),
     ("`may\u{b4}", "s:3:\"may\";", STRING_3),
     ("s;3;\"may\";", "s:3:\"may\";", COLON),
     ("'may'", "s:3:\"may\";", STRING_3),
@@ -63,17 +113,41 @@ const VALUES: &[(&str, &str, &str)] = &[
     ("M\u{e4}rz", "s:5:\"M\u{e4}rz\";", STRING_5),
     ("north", "s:5:\"north\";", STRING_5),
     ("basin", "s:5:\"basin\";", STRING_5),
-    ("10:30", "s:5:\"10:30\";", STRING_5),
     ("no. 5", "s:5:\"no. 5\";", STRING_5),
+    ("may day", "s:7:\"may day\";", STRING_7),
+    ("o'clock", "s:7:\"o'clock\";", STRING_7),
+    (
+        "\u{43c}\u{430}\u{439}",
+        "s:6:\"\u{43c}\u{430}\u{439}\";",
+        STRING_6,
+    ),
+    ("10:30", "", A_VALUE),
+    ("\"10:30\"", "", A_VALUE),
+    ("\"5\"", "", A_VALUE),
+    ("9.5m", "", A_VALUE),
+    ("0x1A", "", A_VALUE),
+    ("2024-02-29", "", A_VALUE),
+    ("d9.75", "", A_VALUE),
+    ("i5", "", A_VALUE),
+    ("i-5", "", A_VALUE),
+    ("i 5", "", A_VALUE),
+    ("d.5", "", A_VALUE),
+    ("int:5;", "", A_VALUE),
+    ("int: 5", "", A_VALUE),
+    ("f:9.5;", "", A_VALUE),
+    ("N:0;", "", A_VALUE),
+    ("float(9.5)", "", A_VALUE),
+    ("float (9.5)", "", A_VALUE),
+    ("air=9.5", "", A_VALUE),
+    ("air => 9.5", "", A_VALUE),
+    ("may\u{a0}day", "", A_VALUE),
+    ("may\u{3000}day", "", A_VALUE),
+    ("may\u{200b}day", "", A_VALUE),
+    ("may\tday", "", A_VALUE),
     (
         "\"\"",
         "s:0:\"\";",
         "a string is in quotes, behind s: and its length in bytes, here 0",
-    ),
-    (
-        "i5",
-        "s:2:\"i5\";",
-        "a string is in quotes, behind s: and its length in bytes, here 2",
     ),
     ("true", "b:1;", guesses::BOOLEAN),
     ("False", "b:0;", guesses::BOOLEAN),
@@ -82,13 +156,32 @@ const VALUES: &[(&str, &str, &str)] = &[
     ("s:4:\"M\u{e4}rz\";", "s:5:\"M\u{e4}rz\";", BYTES_5),
     ("s:4:\"M\u{e4}rz\"", "s:5:\"M\u{e4}rz\";", BYTES_5),
     ("s:6:\"north\";", "s:5:\"north\";", BYTES_5),
-    ("s:4:\"no\\rd\";", "s:5:\"no\\rd\";", BYTES_5),
+    ("s:4:\"no\\rd\";", "", NO_STRING),
+    ("s:4:\"M%E4rz\";", "", NO_STRING),
+    ("s:4:\"M&auml;rz\";", "", NO_STRING),
+    ("s:\"no\\rd\";", "", NO_STRING),
+    ("\"no\\rd\"", "", A_VALUE),
+    ("'5'", "", A_VALUE),
+    ("- 5", "", A_VALUE),
+    ("i:5.", "", NO_INTEGER),
+    ("5.", "", A_VALUE),
+    ("1,5,", "", GROUPS),
+    ("s may", "", A_VALUE),
+    ("no", "", A_VALUE),
+    ("Yes", "", A_VALUE),
+    ("none", "", A_VALUE),
+    ("none other", "s:10:\"none other\";", STRING_10),
     (
         "s:99999999999999999999:\"north\";",
         "s:5:\"north\";",
         BYTES_5,
     ),
-    ("s:3:\"no\"rd\";", "s:5:\"no\"rd\";", BYTES_5),
+    ("s:3:\"no\"rd\";", "", NO_STRING),
+    (
+        "S:5:\"no\"rd\";",
+        "s:5:\"no\"rd\";",
+        "the letter is s, not S",
+    ),
     ("s:3:\"may\"", "s:3:\"may\";", END),
     ("i:5", "i:5;", END),
     ("d:9.5", "d:9.5;", END),
@@ -99,17 +192,34 @@ const VALUES: &[(&str, &str, &str)] = &[
     ("s:\"may\";", "s:3:\"may\";", STRING_3),
     ("s:3:may;", "s:3:\"may\";", STRING_3),
     ("s:3:'may';", "s:3:\"may\";", STRING_3),
-    ("s:3:\"may;", "s:3:\"may\";", STRING_3),
+    ("s:3:\"may;", "", NO_STRING),
+    ("s:4:\"may;", "", NO_STRING),
+    ("s:3:may\";", "", NO_STRING),
+    ("s:3:\"may\".", "", NO_STRING),
+    ("s:3:\"may\",", "", NO_STRING),
+    ("s:5:\"abc\";x", "", NO_STRING),
+    ("s:2:\"may\";s:4:\"june\";", "", NO_STRING),
+    ("s:\"may\";s:\"june\";", "", NO_STRING),
+    ("s:3:\"may\\\";", "", NO_STRING),
+    ("s:3:", "", NO_STRING),
+    ("s:5;", "", NO_STRING),
+    ("s:9:30;", "", NO_STRING),
+    ("s:12:30:45;", "", NO_STRING),
+    ("s:2024:may;", "", NO_STRING),
+    ("s:-3:\"may\";", "", NO_STRING),
+    ("s:3::may;", "", NO_STRING),
+    ("s:may,", "", NO_STRING),
+    ("s:inf;", "", NO_STRING),
+    ("s3:\"may\";", "", A_VALUE),
+    ("s:2:30;", "s:2:\"30\";", STRING_2),
+    ("s:\"30\";", "s:2:\"30\";", STRING_2),
+    ("s:3: \"may\";", "s:3:\"may\";", STRING_3),
     ("s:3:\\\"may\\\";", "s:3:\"may\";", STRING_3),
     ("s:3:&quot;may&quot;;", "s:3:\"may\";", STRING_3),
     ("s:3:&quot;may&quot;", "s:3:\"may\";", STRING_3),
-    ("s:3\"may\";", "s:3:\"may\";", STRING_3),
+    ("s:3\"may\";", "", NO_STRING),
     ("s: \"may\";", "s:3:\"may\";", STRING_3),
-    (
-        "s:3 am;",
-        "s:4:\"3 am\";",
-        "a string is in quotes, behind s: and its length in bytes, here 4",
-    ),
+    ("s:3 am;", "", NO_STRING),
     ("s\"may\";", "s:3:\"may\";", COLON),
     ("b:true;", "b:1;", guesses::BOOLEAN),
     ("b:FALSE", "b:0;", guesses::BOOLEAN),
@@ -137,6 +247,8 @@ const VALUES: &[(&str, &str, &str)] = &[
     ("i;5;", "i:5;", COLON),
     ("i:;", "", NO_INTEGER),
     ("i:five;", "", NO_INTEGER),
+    ("i:\"5;", "", NO_INTEGER),
+    ("i:.5;", "d:.5;", POINT),
     ("d:9.5 m;", "", NO_FLOAT),
     ("s:;", "", NO_STRING),
     ("s;", "", NO_STRING),
@@ -150,12 +262,10 @@ const VALUES: &[(&str, &str, &str)] = &[
     ("i:5;;", "i:5;", "nothing stands behind the ;"),
     ("i:3;d:9.75;", "", ONE),
     ("s:3:\"may\";s:4:\"june\";", "", ONE),
-    ("", "", "nothing was given; the empty string is s:0:\"\";"),
-    (
-        " \n",
-        "",
-        "nothing was given; the empty string is s:0:\"\";",
-    ),
+    ("", "", NOTHING),
+    (" \n", "", NOTHING),
+    (",", "", NOTHING),
+    (";", "", NOTHING),
     ("a:0:{}", "", CONTAINER),
     ("a:1:{i:0", "", CONTAINER),
     ("O:3:\"Day\":0:{}", "", CONTAINER),
@@ -176,29 +286,24 @@ const KEYS: &[(&str, &str, &str)] = &[
         "s:4:\"true\";",
         "a string is in quotes, behind s: and its length in bytes, here 4",
     ),
-    (
-        "N",
-        "s:1:\"N\";",
-        "a string is in quotes, behind s: and its length in bytes, here 1",
-    ),
+    ("N", "", A_KEY),
+    ("inf", "", A_KEY),
+    ("may 5", "", A_KEY),
+    ("s:3:", "", NO_STRING),
     ("i:29", "i:29;", END),
     ("d:29;", "i:29;", guesses::KEY),
-    ("d:29.0;", "", guesses::KEY),
-    ("i:9.5;", "", guesses::KEY),
-    ("9,5", "", guesses::KEY),
+    ("d:29.0;", "", A_KEY),
+    ("i:9.5;", "", A_KEY),
+    ("9,5", "", A_KEY),
     ("1,000", "", GROUPS),
-    ("b:1;", "", guesses::KEY),
-    ("N;", "", guesses::KEY),
-    ("R:5;", "", guesses::KEY),
-    ("a:0:{}", "", guesses::KEY),
-    ("9223372036854775808", "", "an integer has at most 64 bits"),
-    (
-        "i:9223372036854775808;",
-        "",
-        "an integer has at most 64 bits",
-    ),
+    ("b:1;", "", A_KEY),
+    ("N;", "", A_KEY),
+    ("R:5;", "", A_KEY),
+    ("a:0:{}", "", A_KEY),
+    ("9223372036854775808", "", BITS),
+    ("i:9223372036854775808;", "", BITS),
     ("i:3;d:9.75;", "", ONE),
-    ("", "", "nothing was given; the empty string is s:0:\"\";"),
+    ("", "", NOTHING),
 ];
 
 fn is_told(role: Role, cases: &[(&str, &str, &str)]) {
@@ -236,15 +341,25 @@ fn nothing_is_said_of_a_fit_text() {
 #[test]
 fn only_what_can_be_copied_is_told() {
     let said = |text: &[u8]| meant(text, Role::Value).unwrap().to_string();
-    assert_eq!(said(b"M\xe4rz"), string_of(4));
-    assert_eq!(said(b"a\0b"), STRING_3);
+    assert_eq!(said(b"M\xe4rz"), A_VALUE);
+    assert_eq!(said(b"s:\"M\xe4rz\";"), string_of(4));
+    assert_eq!(said(b"s:\"a\0b\";"), STRING_3);
     let shown = "x".repeat(LONGEST - "s:192:\"\";".len());
     let text = format!("s:{}:\"{shown}\";", shown.len());
     assert_eq!(
         said(shown.as_bytes()),
-        format!("probably meant: {text}   ({})", string_of(191))
+        format!("probably meant: '{text}'   ({})", string_of(191))
     );
     assert_eq!(said((shown + "x").as_bytes()), string_of(192));
+}
+
+#[test]
+fn a_shell_takes_what_is_told() {
+    let said = meant(b"o'clock", Role::Value).unwrap().to_string();
+    assert_eq!(
+        said,
+        format!("probably meant: 's:7:\"o'\\''clock\";'   ({STRING_7})")
+    );
 }
 
 fn string_of(count: usize) -> String {
@@ -252,7 +367,7 @@ fn string_of(count: usize) -> String {
 }
 
 /// Pieces of what is typed; put together they make texts that are nearly fit.
-const PIECES: [&[u8]; 40] = [
+const PIECES: [&[u8]; 43] = [
     b"i",
     b"d",
     b"s",
@@ -279,6 +394,9 @@ const PIECES: [&[u8]; 40] = [
     b"3",
     b"9223372036854775808",
     b"9,5",
+    b"1,000",
+    b"1.000",
+    b"30:45",
     b"may",
     b"M\xc3\xa4rz",
     b"\xe4",
@@ -295,8 +413,8 @@ const PIECES: [&[u8]; 40] = [
     b"i:5;",
 ];
 
-#[test]
-fn whatever_is_told_is_accepted() {
+/// Texts put together by chance, and what is told for each.
+fn told_by_chance() -> Vec<(Vec<u8>, Role, Vec<u8>)> {
     let mut state = 7_u64;
     let mut below = |limit: usize| {
         state = state
@@ -304,8 +422,8 @@ fn whatever_is_told_is_accepted() {
             .wrapping_add(1);
         (state >> 33) as usize % limit
     };
-    let mut told = 0;
-    for _ in 0..20_000 {
+    let mut told = Vec::new();
+    for _ in 0..40_000 {
         let count = 1 + below(6);
         let text: Vec<u8> = (0..count)
             .flat_map(|_| PIECES[below(PIECES.len())])
@@ -313,12 +431,57 @@ fn whatever_is_told_is_accepted() {
             .collect();
         for role in [Role::Key, Role::Value] {
             if let Some(meant) = meant(&text, role).and_then(|meant| meant.text) {
-                assert!(is_accepted(&meant, role), "{}", text.escape_ascii());
-                told += 1;
+                told.push((text.clone(), role, meant));
             }
         }
     }
-    assert!(told > 10_000, "{told}");
+    told
+}
+
+#[test]
+fn whatever_is_told_is_accepted() {
+    let told = told_by_chance();
+    for (text, role, meant) in &told {
+        assert!(is_accepted(meant, *role), "{}", text.escape_ascii());
+    }
+    assert!(told.len() > 5_000, "{}", told.len());
+}
+
+#[test]
+fn what_is_told_has_the_digits_that_were_typed() {
+    let told = told_by_chance();
+    let with_digits = told.iter().filter(|(text, ..)| !digits(text).is_empty());
+    let mut count = 0;
+    for (text, _, meant) in with_digits {
+        let typed = digits(text);
+        let same = match meant.strip_prefix(b"s:") {
+            None => typed == digits(meant),
+            Some(string) => {
+                let told = digits(without_length(string));
+                typed == told || digits(without_length(after_letter(text))) == told
+            }
+        };
+        assert!(same, "{} {}", text.escape_ascii(), meant.escape_ascii());
+        count += 1;
+    }
+    assert!(count > 2_000, "{count}");
+}
+
+fn digits(text: &[u8]) -> Vec<u8> {
+    let digits = text.iter().copied().filter(u8::is_ascii_digit);
+    digits.collect()
+}
+
+/// Behind an s, what stands around it and what stands for its colon.
+fn after_letter(text: &[u8]) -> &[u8] {
+    let is_before = |byte: &u8| !byte.is_ascii_digit() && *byte != b'm';
+    let length = text.iter().take_while(|byte| is_before(byte)).count();
+    &text[length..]
+}
+
+fn without_length(string: &[u8]) -> &[u8] {
+    let length = string.iter().take_while(|byte| byte.is_ascii_digit());
+    &string[length.count()..]
 }
 
 /// Whether the library puts it into a plan.

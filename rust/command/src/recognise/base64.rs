@@ -1,21 +1,30 @@
 //! Base64, as far as it must be known to tell what stands in it.
 
+use tonschnecke::SOURCE_LIMIT;
+
+/// With -i, since the lines may end with CR.
+const PADDED: &str = "this is base64; decode it first: base64 -di FILE > NEW";
+/// Neither is taken by the command base64.
+const OTHER: &str = "this is base64 for URLs or without padding; decode it first, \
+                     in PHP: base64_decode(strtr($text, '-_', '+/'))";
+
 /// How to decode it, if it is base64 of something wanted.
-pub fn command(text: &[u8], wanted: impl Fn(&[u8]) -> bool) -> Option<&'static str> {
+pub fn advice(text: &[u8], wanted: impl Fn(&[u8]) -> bool) -> Option<&'static str> {
     let bytes = decoded(text)?;
-    if !wanted(&bytes) {
-        None
-    } else if text.iter().any(|byte| b"-_".contains(byte)) {
-        Some("this is base64 for URLs; decode it first: basenc -d --base64url FILE")
-    } else {
-        Some("this is base64; decode it first: base64 -d FILE")
-    }
+    // Of a longer one the end was not read.
+    let padded = text.len() > SOURCE_LIMIT || without_lines(text).len() % 4 == 0;
+    let plain = padded && !text.iter().any(|byte| b"-_".contains(byte));
+    wanted(&bytes).then_some(if plain { PADDED } else { OTHER })
+}
+
+fn without_lines(text: &[u8]) -> Vec<u8> {
+    let text = text.iter().copied().filter(|byte| !b"\r\n".contains(byte));
+    text.collect()
 }
 
 /// The bytes that it means; none where anything but digits, padding and newlines stands there.
 fn decoded(text: &[u8]) -> Option<Vec<u8>> {
-    let text = text.iter().copied().filter(|byte| !b"\r\n".contains(byte));
-    let text: Vec<u8> = text.collect();
+    let text = without_lines(text);
     let padding = text.iter().rev().take_while(|&&byte| byte == b'=').count();
     let (digits, _) = text.split_at(text.len() - padding);
     let digits: Vec<u8> = digits.iter().copied().map(digit).collect::<Option<_>>()?;
@@ -65,15 +74,13 @@ mod tests {
 
     #[test]
     fn only_what_is_wanted_is_told() {
-        let told = |text: &[u8]| command(text, |bytes| bytes == b"\xfb\xff\xbf");
-        assert_eq!(
-            told(b"+/+/"),
-            Some("this is base64; decode it first: base64 -d FILE")
-        );
-        assert_eq!(
-            told(b"-_-_"),
-            Some("this is base64 for URLs; decode it first: basenc -d --base64url FILE")
-        );
+        let told = |text: &[u8]| advice(text, |bytes| bytes.starts_with(b"\xfb\xff"));
+        for padded in ["+/8=", "+/+/", "+/\r\n8=\r\n"] {
+            assert_eq!(told(padded.as_bytes()), Some(PADDED), "{padded}");
+        }
+        for other in ["-_8=", "-_-_", "-_8", "+/8", "+/8=="] {
+            assert_eq!(told(other.as_bytes()), Some(OTHER), "{other}");
+        }
         assert_eq!(told(b"abcd"), None);
     }
 }

@@ -40,7 +40,7 @@ fn a_bom() {
     refused(
         b"\xef\xbb\xbfN;",
         "refused 3 at 0: a value begins with one of N b i d s a O r R; \
-         a byte order mark (BOM), which some editors write, stands before it; without it: tail -c +4 FILE
+         a byte order mark (BOM), which some editors write, stands before it; without it: tail -c +4 FILE > NEW
   %EF%BB%BFN;
   ^
 ",
@@ -51,7 +51,7 @@ fn a_bom() {
 fn gzip() {
     let packed = made("gzip", &["-nc"]);
     assert_eq!(packed[..10], *b"\x1f\x8b\x08\0\0\0\0\0\0\x03");
-    let said = "this is gzip; unpack it first: gzip -dc FILE";
+    let said = "this is gzip; unpack it first: gzip -dc FILE > NEW";
     let ran = pipe(&packed, ["show"]);
     let (first, shown) = ran.error.split_once('\n').expect("lines");
     assert_eq!(
@@ -73,7 +73,7 @@ fn base64() {
         refused(
             &made("base64", arguments),
             "refused 3 at 0: a value begins with one of N b i d s a O r R; \
-             this is base64; decode it first: base64 -d FILE
+             this is base64; decode it first: base64 -di FILE > NEW
   Tzo3OiJBaXJQbGFuIjoz...
   ^
 ",
@@ -97,7 +97,7 @@ fn a_session() {
     refused(
         b"air|d:9.5;leap|b:1;",
         &format!(
-            "refused 2 at 0: the text that begins here is not of the form a:COUNT:{{PAIRS}} with so many pairs; {said}
+            "refused 2 at 0: the text that begins here is not of the form a:COUNT:{{PAIRS}} with so many pairs, or the plan ends too soon; {said}
   air|d:9.5;leap|b:1;
   ^
 "
@@ -109,14 +109,14 @@ fn a_session() {
 fn a_newline_at_the_end() {
     refused(
         b"N;\n",
-        "refused 10 at 2: bytes follow the value; this is a newline at the end; without it: head -c 2 FILE
+        "refused 10 at 2: bytes follow the value; this is a newline at the end; without it: head -c 2 FILE > NEW
   N;%0A
     ^
 ",
     );
     refused(
         b"N;\r\n",
-        "refused 10 at 2: bytes follow the value; this is a newline at the end; without it: head -c 2 FILE
+        "refused 10 at 2: bytes follow the value; this is a newline at the end; without it: head -c 2 FILE > NEW
   N;%0D%0A
     ^
 ",
@@ -127,34 +127,70 @@ fn a_newline_at_the_end() {
     );
 }
 
+#[test]
+fn a_newline_behind_the_longest_plan() {
+    let text = "x".repeat(65_536 - "s:65525:\"\";".len());
+    let plan = format!("s:{}:\"{text}\";\n", text.len());
+    refused(
+        plan.as_bytes(),
+        "refused 1 at 0: the plan is longer than 65,536 bytes; \
+         its first 65536 bytes are a plan, and a newline follows; \
+         without it: head -c 65536 FILE > NEW\n",
+    );
+}
+
 /// A shell command, and what recognising tells to do about what it leaves in `$FILE`.
-const MENDED: [(&str, &str); 4] = [
+const MENDED: [(&str, &str); 11] = [
     ("cat $YEAR > $FILE; echo >> $FILE", "without it: "),
     (
         "printf '\\357\\273\\277' > $FILE; cat $YEAR >> $FILE",
         "without it: ",
     ),
     ("gzip -c $YEAR > $FILE", "unpack it first: "),
+    (
+        "unzip -v > /dev/null && zip -q - $YEAR > $FILE",
+        "unpack it first: ",
+    ),
+    ("bzip2 -1c $YEAR > $FILE", "unpack it first: "),
+    ("xz -c $YEAR > $FILE", "unpack it first: "),
+    ("zstd -c $YEAR > $FILE", "unpack it first: "),
     ("base64 $YEAR > $FILE", "decode it first: "),
+    ("base64 $YEAR | sed 's/$/\\r/' > $FILE", "decode it first: "),
+    (
+        "iconv -f UTF-8 -t UTF-16 $YEAR > $FILE",
+        "convert it first: ",
+    ),
+    (
+        "iconv -f UTF-8 -t UTF-32 $YEAR > $FILE",
+        "convert it first: ",
+    ),
 ];
+
+/// What a shell says of a command that is not installed.
+const NOT_FOUND: i32 = 127;
 
 #[test]
 fn what_is_told_mends_it() {
     let folder = Folder::new();
-    let file = folder.path("plan");
-    let shell = |script: &str| {
+    let (file, new) = (folder.path("plan"), folder.path("new"));
+    let status = |script: &str| {
         let mut bash = Command::new("bash");
         bash.args(["-c", script])
             .env("FILE", &file)
+            .env("NEW", &new)
             .env("YEAR", YEAR);
-        bash.output().expect("bash starts")
+        bash.status().expect("bash starts").code()
     };
     for (spoil, lead) in MENDED {
-        assert!(shell(spoil).status.success());
+        match status(spoil) {
+            Some(NOT_FOUND) => continue,
+            code => assert_eq!(code, Some(0), "{spoil}"),
+        }
         let error = run(["show", file.to_str().unwrap()]).error;
         let first = error.lines().next().expect("a line");
-        let (_, told) = first.split_once(lead).expect("what to do");
-        let mended = shell(&told.replace("FILE", "$FILE")).stdout;
-        assert_eq!(mended, fs::read(YEAR).unwrap(), "{told}");
+        let (_, told) = first.split_once(lead).expect(spoil);
+        let told = told.replace("FILE", "$FILE").replace("NEW", "$NEW");
+        assert_eq!(status(&told), Some(0), "{told}");
+        assert_eq!(fs::read(&new).unwrap(), fs::read(YEAR).unwrap(), "{told}");
     }
 }

@@ -12,24 +12,26 @@ fn refused(source: impl AsRef<[u8]>, error: &str) {
 }
 
 /// A plan, and what is said of it.
-const PLANS: [(&str, &str); 17] = [
+const PLANS: [(&str, &str); 19] = [
     ("", "refused 2 at 0: the plan ends where a value or a key is due; it is empty\n  \n  ^\n"),
     ("a:1:{i:0;", "refused 2 at 9: the plan ends where a value or a key is due\n  a:1:{i:0;\n           ^\n"),
-    ("N", "refused 2 at 0: the text that begins here is not of the form N;\n  N\n  ^\n"),
-    ("b:2;", "refused 2 at 0: the text that begins here is not of the form b:0; or b:1;\n  b:2;\n  ^\n"),
-    ("i:;", "refused 2 at 0: the text that begins here is not of the form i:INTEGER;\n  i:;\n  ^\n"),
-    ("d:.;", "refused 2 at 0: the text that begins here is not of the form d:FLOAT;\n  d:.;\n  ^\n"),
-    ("s:2:\"a\";", "refused 2 at 0: the text that begins here is not of the form s:LENGTH:\"BYTES\"; with so many bytes\n  s:2:\"a\";\n  ^\n"),
-    ("a:0:{N;}", "refused 2 at 0: the text that begins here is not of the form a:COUNT:{PAIRS} with so many pairs\n  a:0:{N;}\n  ^\n"),
+    ("a:1:{i:0;N;", "refused 2 at 0: the text that begins here is not of the form a:COUNT:{PAIRS} with so many pairs, or the plan ends too soon\n  a:1:{i:0;N;\n  ^\n"),
+    ("a:1:{i:0;s:3:\"ma", "refused 2 at 9: the text that begins here is not of the form s:LENGTH:\"BYTES\"; with so many bytes, or the plan ends too soon\n  a:1:{i:0;s:3:\"ma\n           ^\n"),
+    ("N", "refused 2 at 0: the text that begins here is not of the form N;, or the plan ends too soon\n  N\n  ^\n"),
+    ("b:2;", "refused 2 at 0: the text that begins here is not of the form b:0; or b:1;, or the plan ends too soon\n  b:2;\n  ^\n"),
+    ("i:;", "refused 2 at 0: the text that begins here is not of the form i:INTEGER;, or the plan ends too soon\n  i:;\n  ^\n"),
+    ("d:.;", "refused 2 at 0: the text that begins here is not of the form d:FLOAT;, or the plan ends too soon\n  d:.;\n  ^\n"),
+    ("s:2:\"a\";", "refused 2 at 0: the text that begins here is not of the form s:LENGTH:\"BYTES\"; with so many bytes, or the plan ends too soon\n  s:2:\"a\";\n  ^\n"),
+    ("a:0:{N;}", "refused 2 at 0: the text that begins here is not of the form a:COUNT:{PAIRS} with so many pairs, or the plan ends too soon\n  a:0:{N;}\n  ^\n"),
     (
         "O:1:\"P\"",
-        "refused 2 at 0: the text that begins here is not of the form O:LENGTH:\"CLASS\":COUNT:{PAIRS} with so many bytes and pairs
+        "refused 2 at 0: the text that begins here is not of the form O:LENGTH:\"CLASS\":COUNT:{PAIRS} with so many bytes and pairs, or the plan ends too soon
   O:1:\"P\"
   ^
 ",
     ),
-    ("r:-1;", "refused 2 at 0: the text that begins here is not of the form r:NUMBER;\n  r:-1;\n  ^\n"),
-    ("R1;", "refused 2 at 0: the text that begins here is not of the form R:NUMBER;\n  R1;\n  ^\n"),
+    ("r:-1;", "refused 2 at 0: the text that begins here is not of the form r:NUMBER;, or the plan ends too soon\n  r:-1;\n  ^\n"),
+    ("R1;", "refused 2 at 0: the text that begins here is not of the form R:NUMBER;, or the plan ends too soon\n  R1;\n  ^\n"),
     ("x:1:\"X\":0:{}", "refused 3 at 0: a value begins with one of N b i d s a O r R\n  x:1:\"X\":0:{}\n  ^\n"),
     ("a:2:{i:0;N;}", "refused 4 at 11: a key begins with i or s in an array, and with s in an object\n  a:2:{i:0;N;}\n             ^\n"),
     ("i:9223372036854775808;", "refused 5 at 0: the integer has more than 64 bits, or the number is above 65,536\n  i:922337203685477580...\n  ^\n"),
@@ -109,17 +111,17 @@ fn of_a_node_that_is_no_array() {
 /// Place, key and value, and what is said of them.
 const REQUESTS: [(&str, &str, &str, &str); 7] = [
     ("4", "i:9;", "N;", "refused 12 at 0: the place 4 is above the count of /, which is 3\n"),
-    ("0", "d:5;", "N;", "refused 13 at 0: the key is not exactly one i or s\n  d:5;\n  probably meant: i:5;   (a key is an integer or a string)\n"),
+    ("0", "d:5;", "N;", "refused 13 at 0: the key is not exactly one i or s\n  d:5;\n  probably meant: 'i:5;'   (a key is an integer or a string)\n"),
     ("0", "", "x", "refused 13 at 0: the key is not exactly one i or s\n  \n  nothing was given; the empty string is s:0:\"\";\n"),
     ("0", "i:9;", "R:1;", "refused 13 at 0: the value is not exactly one N, b, i, d or s\n  R:1;\n  a reference cannot be put in, only a plain value\n"),
-    ("0", "i:0;", "N;\n", "refused 13 at 0: the value is not exactly one N, b, i, d or s\n  N;%0A\n  probably meant: N;   (no blank or newline stands around it)\n"),
+    ("0", "i:0;", "N;\n", "refused 13 at 0: the value is not exactly one N, b, i, d or s\n  N;%0A\n  probably meant: 'N;'   (no blank or newline stands around it)\n"),
     (
         "0",
         "i:9;",
         "0123456789012345678901234567890123456789012345678901234567890",
         "refused 13 at 0: the value is not exactly one N, b, i, d or s
   012345678901234567890123456789012345678901234567890123456789...
-  probably meant: d:0123456789012345678901234567890123456789012345678901234567890;   (an integer has at most 64 bits; a larger number is a float)
+  probably meant: 'd:0123456789012345678901234567890123456789012345678901234567890;'   (an integer has at most 64 bits; a larger number is a float)
 ",
     ),
     ("3", "i:+02;", "N;", "refused 9 at 0: / has this key already\n  i:+02;\n"),
