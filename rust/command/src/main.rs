@@ -2,10 +2,13 @@
 //! Everything that matters is done by the proved library; this reads, writes and explains.
 
 mod arguments;
+mod attributes;
+mod descriptors;
 mod escape;
 mod failure;
 mod help;
 mod input;
+mod itself;
 mod lock;
 mod meant;
 mod options;
@@ -20,7 +23,7 @@ mod signals;
 mod target;
 mod temporary;
 
-use arguments::Request;
+use arguments::{Job, Request};
 use failure::Failure;
 use output::Output;
 use std::env;
@@ -32,14 +35,19 @@ fn main() -> ExitCode {
     let status = match arguments::parse(env::args_os().skip(1)) {
         Ok(Request::Help(text)) => status(say(text)),
         Ok(Request::Version) => status(say(VERSION)),
-        // A plan that fails keeps none of the others, and the greatest status is given.
-        Ok(Request::Run(jobs)) => {
-            let statuses = jobs.iter().map(|job| status(service::run(job)));
-            statuses.max().unwrap_or(0)
-        }
+        Ok(Request::Run(jobs)) => run(&jobs),
         Err(failure) => failure.report(),
     };
     ExitCode::from(status)
+}
+
+/// A plan that fails keeps none of the others, and the greatest status is given.
+fn run(jobs: &[Job]) -> u8 {
+    if let Err(failure) = itself::refuse(jobs) {
+        return failure.report();
+    }
+    let statuses = jobs.iter().map(|job| status(service::run(job)));
+    statuses.max().unwrap_or(0)
 }
 
 fn say(text: &str) -> Result<(), Failure> {

@@ -1,9 +1,10 @@
 //! Where the result goes.
 
 use crate::arguments::Job;
+use crate::descriptors::{self, STANDARD_OUTPUT};
+use crate::escape::shown;
 use crate::failure::Failure;
-use crate::input;
-use crate::lock::lock;
+use crate::input::Input;
 use crate::replace::{Replacement, Unreplaced};
 use crate::target::Target;
 use std::fs::File;
@@ -20,7 +21,13 @@ pub enum Destination {
     InPlace(PathBuf),
 }
 
-/// A destination found; locked already if the plan is read from it.
+impl Destination {
+    fn is_in_place(&self) -> bool {
+        matches!(self, Destination::InPlace(_))
+    }
+}
+
+/// A destination found.
 pub struct Output<'a> {
     way: Way,
     /// What cannot be done if something is wrong: an act, and the file as it was given.
@@ -30,7 +37,9 @@ pub struct Output<'a> {
 
 enum Way {
     StandardOutput,
-    /// Written directly.
+    /// A descriptor that was named.
+    Open(File),
+    /// Opened when it is written.
     Stream,
     Replacement(Replacement),
     Nothing,
@@ -45,7 +54,7 @@ impl<'a> Output<'a> {
         }
     }
 
-    /// To be called before the plan is read.
+    /// To be called before anything is opened, which could have the descriptor that is named.
     pub fn find(job: &'a Job) -> Result<Self, Failure> {
         let mut output = Output::standard();
         if job.dry_run {
@@ -61,6 +70,30 @@ impl<'a> Output<'a> {
         Ok(output)
     }
 
+    /// Locks it if it is the plan's own file, and says whether it is. To be called before the plan is read.
+    pub fn lock(&mut self, job: &Job, input: &Input<'_>) -> Result<bool, Failure> {
+        let name = match &mut self.way {
+            Way::StandardOutput | Way::Nothing => return Ok(false),
+            Way::Replacement(replacement) => {
+                replacement.input = input.identity();
+                &replacement.name
+            }
+            Way::Open(_) | Way::Stream => self.file,
+        };
+        if !job.destination.is_in_place() && !input.is_from(name) {
+            return Ok(false);
+        }
+        let locked = match &mut self.way {
+            _ if !job.service.writes_plan() => {
+                wrong("it is the plan itself, and the result is no plan")
+            }
+            Way::Replacement(replacement) => replacement.lock_plan(),
+            _ => wrong("it is the plan itself, and no name that a file can be renamed to"),
+        };
+        locked.map_err(|why| self.failure(why))?;
+        Ok(true)
+    }
+
     /// Has `fill` write to it. Every error on the way is told. `source` is the plan that was read.
     pub fn write(
         &self,
@@ -68,10 +101,16 @@ impl<'a> Output<'a> {
         fill: impl FnOnce(&mut dyn Write) -> io::Result<()>,
     ) -> Result<(), Failure> {
         let written = match &self.way {
-            Way::StandardOutput => buffered(io::stdout().lock(), fill)
-                .map(drop)
+            Way::StandardOutput => descriptors::duplicate(STANDARD_OUTPUT)
+                .and_then(|output| buffered(output, fill).map(drop))
                 .map_err(Unreplaced::Trouble),
-            Way::Stream => write_stream(self.file, fill).map_err(Unreplaced::Trouble),
+            Way::Open(file) => write_directly(file, fill).map_err(Unreplaced::Trouble),
+            // What others wrote to a file that is open stays.
+            Way::Stream => File::options()
+                .append(true)
+                .open(self.file)
+                .and_then(|file| write_directly(&file, fill))
+                .map_err(Unreplaced::Trouble),
             Way::Replacement(replacement) => replacement.write(source, fill),
             Way::Nothing => Ok(()),
         };
@@ -79,7 +118,7 @@ impl<'a> Output<'a> {
     }
 
     fn failure(&self, why: Unreplaced) -> Failure {
-        let (act, file) = (self.act, self.file.display());
+        let (act, file) = (self.act, shown(self.file.as_os_str()));
         match why {
             Unreplaced::Locked(wait) => {
                 let waited = waited(wait);
@@ -89,6 +128,9 @@ impl<'a> Output<'a> {
             }
             Unreplaced::Changed => Failure::Busy(format!(
                 "{file} was changed by somebody else meanwhile; nothing was written"
+            )),
+            Unreplaced::Unsynced(error) => Failure::Trouble(format!(
+                "{file} is replaced, but a crash may still undo it: {error}"
             )),
             Unreplaced::Trouble(error) if error.kind() == ErrorKind::BrokenPipe => Failure::Unread,
             Unreplaced::Trouble(error) => Failure::Trouble(format!("cannot {act} {file}: {error}")),
@@ -105,23 +147,22 @@ fn waited(wait: Duration) -> String {
 }
 
 fn find_way(job: &Job, file: &Path) -> Result<Way, Unreplaced> {
-    let in_place = matches!(job.destination, Destination::InPlace(_));
-    let is_plan = in_place || input::is_from(job.file.as_deref(), file);
-    let wrong = |message: &str| Err(io::Error::other(message).into());
-    if is_plan && !job.service.writes_plan() {
-        return wrong("it is the plan itself, and the result is no plan");
-    }
     match Target::find(file)? {
         Target::Name(name) => Ok(Way::Replacement(Replacement {
-            plan: is_plan.then(|| lock(&name, job.wait)).transpose()?,
+            given: file.to_owned(),
             name,
+            plan: None,
+            input: None,
             wait: job.wait,
         })),
-        _ if in_place => wrong("not a regular file"),
-        _ if is_plan => wrong("it is the plan itself, and no name that a file can be renamed to"),
+        _ if job.destination.is_in_place() => wrong("not a regular file"),
+        Target::Open(file) => Ok(Way::Open(file)),
         Target::Stream => Ok(Way::Stream),
-        Target::StandardOutput => Ok(Way::StandardOutput),
     }
+}
+
+fn wrong<T>(message: &str) -> Result<T, Unreplaced> {
+    Err(io::Error::other(message).into())
 }
 
 /// Has `fill` write through a buffer, and gives back what is behind it once all is through.
@@ -136,15 +177,14 @@ pub fn buffered<W: Write>(
     Ok(destination)
 }
 
-fn write_stream(
-    name: &Path,
+fn write_directly(
+    file: &File,
     fill: impl FnOnce(&mut dyn Write) -> io::Result<()>,
 ) -> io::Result<()> {
-    // What others wrote to a file that is open stays.
-    let written = buffered(File::options().append(true).open(name)?, fill)?;
+    buffered(file, fill)?;
     // A full disk may show only here; a pipe or a device has nothing to sync.
-    if written.metadata()?.is_file() {
-        written.sync_all()?;
+    if file.metadata()?.is_file() {
+        file.sync_all()?;
     }
     Ok(())
 }

@@ -2,9 +2,10 @@
 
 use crate::arguments::{Job, Service};
 use crate::failure::Failure;
+use crate::input::{self, Input};
 use crate::output::{Destination, Output};
 use crate::pair::{Array, Pair, Place};
-use crate::{input, refusal, report};
+use crate::{refusal, report};
 use std::io::{self, Write};
 use tonschnecke::lent::Insertion;
 use tonschnecke::{Kind, Nowhere, Plan, Value};
@@ -27,8 +28,13 @@ struct Task<'a> {
 impl<'a> Task<'a> {
     /// The output is found, and if it is the plan's own file locked, before the plan is read.
     fn start(job: &'a Job) -> Result<Self, Failure> {
-        let output = Output::find(job)?;
-        let source = input::read(job.file.as_deref())?;
+        let mut output = Output::find(job)?;
+        let mut input = Input::open(job.file.as_deref());
+        if output.lock(job, &input)? {
+            // It may have been replaced while the lock was waited for.
+            input = input.open_again();
+        }
+        let source = input.read()?;
         let plan = Plan::read(&source[..]).map_err(|refused| refusal::of_plan(refused, &source))?;
         Ok(Task { job, output, plan })
     }

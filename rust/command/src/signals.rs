@@ -11,8 +11,18 @@ use std::sync::atomic::{AtomicPtr, Ordering};
 
 const SIGHUP: c_int = 1;
 const SIGINT: c_int = 2;
+const SIGQUIT: c_int = 3;
+const SIGUSR1: c_int = 10;
+const SIGUSR2: c_int = 12;
 const SIGPIPE: c_int = 13;
+const SIGALRM: c_int = 14;
 const SIGTERM: c_int = 15;
+const SIGXCPU: c_int = 24;
+
+/// Those that somebody sends, or a limit of time.
+const ENDING: [c_int; 8] = [
+    SIGHUP, SIGINT, SIGQUIT, SIGUSR1, SIGUSR2, SIGALRM, SIGTERM, SIGXCPU,
+];
 
 /// The actions `SIG_DFL` and `SIG_IGN`; any other is a function's address.
 const DEFAULT: usize = 0;
@@ -32,7 +42,7 @@ pub fn remove_if_ended(file: &Path) {
     let path = CString::new(file.as_os_str().as_bytes()).expect("a path has no NUL");
     // Never freed: a signal may come at any moment.
     TEMPORARY.store(path.into_raw(), Ordering::SeqCst);
-    for number in [SIGHUP, SIGINT, SIGTERM] {
+    for number in ENDING {
         let action: extern "C" fn(c_int) = remove_and_end;
         // SAFETY: the action is a function of the type that `signal` asks for, and calls only what
         // a handler may call.

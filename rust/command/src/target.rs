@@ -1,6 +1,8 @@
 //! Where a name for the output leads.
 
-use std::fs;
+use crate::descriptors;
+use std::ffi::OsStr;
+use std::fs::{self, File};
 use std::io::{self, ErrorKind};
 use std::os::unix::ffi::OsStrExt;
 use std::os::unix::fs::MetadataExt;
@@ -14,9 +16,10 @@ const TOO_MANY_LINKS: i32 = 40;
 pub enum Target {
     /// A regular file, or none yet: the last name, behind all symbolic links.
     Name(PathBuf),
-    /// A pipe, a device or a file that some process has open, under the name given.
+    /// One of the command's own descriptors.
+    Open(File),
+    /// A pipe, a device or a file that another process has open, under the name given.
     Stream,
-    StandardOutput,
 }
 
 impl Target {
@@ -24,13 +27,14 @@ impl Target {
         let mut name = given.to_owned();
         for _ in 0..=MOST_LINKS {
             let found = match fs::symlink_metadata(&name) {
-                Err(error) if error.kind() == ErrorKind::NotFound => None,
+                // No file is made in /proc, and later the descriptor named might be one of ours.
+                Err(error) if error.kind() == ErrorKind::NotFound && !stands_in_proc(&name) => None,
                 outcome => Some(outcome?),
             };
             match found {
                 Some(link) if link.is_symlink() => {
                     if is_in_proc(link.dev()) {
-                        return Ok(open_file(&name));
+                        return open_file(&name);
                     }
                     name = folder(&name).join(fs::read_link(&name)?);
                 }
@@ -61,11 +65,17 @@ fn is_in_proc(device: u64) -> bool {
     fs::metadata("/proc").is_ok_and(|proc| proc.dev() == device)
 }
 
-fn open_file(link: &Path) -> Target {
+fn stands_in_proc(name: &Path) -> bool {
+    fs::metadata(folder(name)).is_ok_and(|folder| is_in_proc(folder.dev()))
+}
+
+fn open_file(link: &Path) -> io::Result<Target> {
     let real = |folder: &Path| fs::canonicalize(folder).ok();
     let own = real(folder(link)) == real(Path::new("/proc/self/fd"));
-    match link.file_name() {
-        Some(number) if own && number == "1" => Target::StandardOutput,
-        _ => Target::Stream,
+    let number = link.file_name().and_then(OsStr::to_str);
+    match number.and_then(|number| number.parse().ok()) {
+        // Opened anew, it would begin at its start, and what is written to it by others overwrites that.
+        Some(number) if own => descriptors::duplicate(number).map(Target::Open),
+        _ => Ok(Target::Stream),
     }
 }

@@ -69,8 +69,9 @@ fn prefix(target: &Path) -> OsString {
     prefix
 }
 
-/// Removes what killed processes left for this target. What cannot be removed harms nobody.
-pub fn remove_left(target: &Path) {
+/// Removes what killed processes left for this target, but not what somebody recovers a plan from. What
+/// cannot be removed harms nobody.
+pub fn remove_left(target: &Path, input: Option<(u64, u64)>) {
     let prefix = prefix(target);
     let entries = fs::read_dir(folder(target)).into_iter().flatten().flatten();
     for entry in entries {
@@ -78,7 +79,7 @@ pub fn remove_left(target: &Path) {
         let digits = digits.as_bytes().strip_prefix(prefix.as_bytes());
         let regular = entry.file_type().is_ok_and(|kind| kind.is_file());
         if regular && digits.is_some_and(is_random) {
-            let _ = remove_if_left(&entry.path());
+            let _ = remove_if_left(&entry.path(), input);
         }
     }
 }
@@ -88,8 +89,11 @@ fn is_random(digits: &[u8]) -> bool {
     digits.len() == DIGITS && digits.iter().all(digit)
 }
 
-fn remove_if_left(name: &Path) -> io::Result<()> {
+fn remove_if_left(name: &Path, input: Option<(u64, u64)>) -> io::Result<()> {
     let file = lock::open(name)?;
+    if Some(lock::identity(&file.metadata()?)) == input {
+        return Ok(());
+    }
     file.try_lock()?;
     fs::remove_file(name)
 }

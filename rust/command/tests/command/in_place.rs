@@ -1,7 +1,8 @@
 //! Replacing a plan's own file: whole or not at all.
 
 use crate::run::{
-    is_root, names, run, run_bound, set_mode, shell, Folder, Ran, CANONICAL, FULL_DISK, ODD, YEAR,
+    faulty, is_root, names, run, run_bound, set_mode, shell, Folder, Ran, CANONICAL, FULL_DISK,
+    ODD, YEAR,
 };
 use std::fs;
 use std::os::unix::fs::{chown, symlink, MetadataExt};
@@ -155,7 +156,8 @@ fn not_permitted() {
     // All may write to it, but the new file would be another user's: only root can have one of another's.
     if is_root() {
         set_mode(&plan, 0o666);
-        denied(&folder, &plan, "Operation not permitted (os error 1)");
+        let error = "its owner cannot be kept: Operation not permitted (os error 1)";
+        denied(&folder, &plan, error);
     }
 }
 
@@ -178,4 +180,24 @@ fn writing_fails_half_way() {
     Ran::new(shell(&folder, &script)).fails(2, error);
     assert!(fs::read(&plan).unwrap() == fs::read(YEAR).unwrap());
     assert_eq!(names(&folder.path("")), ["plan"]);
+}
+
+#[test]
+fn a_folder_that_cannot_be_synced() {
+    let script = "exec \"$0\" canonical --in-place --quiet plan";
+    let error = "plan is replaced, but a crash may still undo it: Input/output error (os error 5)";
+    // 22, EINVAL, comes from file systems that sync no folders.
+    for (variable, status, error) in [
+        ("FSYNC=5", 2, format!("tonschnecke: {error}\n")),
+        ("FSYNC=22", 0, String::new()),
+    ] {
+        let folder = Folder::new();
+        let plan = folder.file("plan", ODD);
+        let Some(ran) = faulty(&folder, variable, script) else {
+            return;
+        };
+        ran.fails(status, &error);
+        holds(&plan, CANONICAL);
+        assert_eq!(names(&folder.path("")), ["plan"]);
+    }
 }

@@ -1,6 +1,8 @@
 //! Ended half way: the plan is whole, and nothing is left beside it.
 
-use crate::run::{command, long_tree, names, shell, Folder, Ran, Sender, PROGRAM, YEAR};
+use crate::run::{
+    command, long_tree, names, shell, Folder, Ran, Sender, CANONICAL, FULL_DISK, ODD, PROGRAM, YEAR,
+};
 use std::fs::{self, File};
 use std::os::unix::process::ExitStatusExt;
 use std::process::{Command, ExitStatus};
@@ -92,6 +94,41 @@ fn by_hanging_up() {
     ended_by(HANG_UP, nothing_is_left);
 }
 
+/// Ended half way; whether the signal came in time.
+fn ended_half_way(sender: &mut Sender, folder: &Folder, (name, number): (&str, i32)) -> bool {
+    let script = "ulimit -c 0; exec env --default-signal \"$0\" show plan -o new";
+    let mut child = Command::new("bash")
+        .args(["-c", script, PROGRAM])
+        .current_dir(folder.path(""))
+        .spawn()
+        .unwrap();
+    while names(&folder.path("")).len() == 1 {}
+    sender.send(name, &child);
+    let status = child.wait().unwrap();
+    assert!(status.success() || status.signal() == Some(number));
+    let late = fs::remove_file(folder.path("new")).is_ok();
+    nothing_is_left(folder);
+    !late
+}
+
+#[test]
+fn by_other_signals() {
+    let mut sender = Sender::new();
+    let folder = Folder::new();
+    folder.file("plan", long_tree());
+    for signal in [
+        ("QUIT", 3),
+        ("USR1", 10),
+        ("USR2", 12),
+        ("ALRM", 14),
+        ("XCPU", 24),
+    ] {
+        let ended = (0..100).any(|_| ended_half_way(&mut sender, &folder, signal));
+        assert!(ended, "the signal was always late");
+    }
+    sender.end();
+}
+
 fn canonical(folder: &Folder) -> ExitStatus {
     command(["canonical", "plan", "--quiet", "--in-place"])
         .current_dir(folder.path(""))
@@ -130,6 +167,39 @@ fn what_was_left_is_removed() {
         after.sort();
         after.dedup();
         assert_eq!(names(&folder.path("")), after);
+    }
+}
+
+const LEFT: [&str; 2] = [
+    ".plan.tonschnecke-0123456789abcdef",
+    ".plan.tonschnecke-fedcba9876543210",
+];
+
+#[test]
+fn what_was_left_stays_until_there_is_something_new() {
+    let folder = Folder::new();
+    folder.file("plan", fs::read(YEAR).unwrap());
+    folder.file(LEFT[0], "left");
+    let script = format!("{FULL_DISK} exec \"$0\" canonical plan --in-place");
+    assert_eq!(Ran::new(shell(&folder, &script)).status, Some(2));
+    assert_eq!(names(&folder.path("")), [LEFT[0], "plan"]);
+}
+
+#[test]
+fn what_was_left_and_is_read_is_not_removed() {
+    let folder = Folder::new();
+    folder.file("plan", "N;");
+    for arguments in [
+        format!("{} -o plan", LEFT[0]),
+        format!("-o plan < {}", LEFT[0]),
+    ] {
+        for name in LEFT {
+            folder.file(name, ODD);
+        }
+        let script = format!("exec \"$0\" canonical {arguments}");
+        Ran::new(shell(&folder, &script)).gives("");
+        assert_eq!(names(&folder.path("")), [LEFT[0], "plan"]);
+        assert_eq!(fs::read_to_string(folder.path("plan")).unwrap(), CANONICAL);
     }
 }
 

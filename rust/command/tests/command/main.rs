@@ -1,9 +1,11 @@
 //! The command, run as a user would.
 
+mod descriptors;
 mod files;
 mod help;
 mod in_place;
 mod interrupted;
+mod kept;
 mod meant;
 mod output;
 mod pairs;

@@ -243,6 +243,7 @@ fn not_permitted() {
     // The new file would be another user's.
     if is_root() {
         set_mode(&old, 0o666);
-        denied("old", "Operation not permitted (os error 1)");
+        let error = "its owner cannot be kept: Operation not permitted (os error 1)";
+        denied("old", error);
     }
 }

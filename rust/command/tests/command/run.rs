@@ -116,6 +116,50 @@ pub fn shell(folder: &Folder, script: &str) -> Output {
         .expect("bash starts")
 }
 
+/// Functions of the system that fail with the errors that these variables say: `FSYNC`, for folders, and
+/// `FSETXATTR`.
+const FAULTS: &str = r#"
+#define _GNU_SOURCE
+#include <errno.h>
+#include <stdlib.h>
+#include <sys/stat.h>
+#include <sys/syscall.h>
+#include <unistd.h>
+static int fails(const char *name) {
+    const char *error = getenv(name);
+    errno = error ? atoi(error) : 0;
+    return error != 0;
+}
+int fsync(int file) {
+    struct stat found;
+    int is_folder = !fstat(file, &found) && S_ISDIR(found.st_mode);
+    return is_folder && fails("FSYNC") ? -1 : syscall(SYS_fsync, file);
+}
+int fsetxattr(int file, const char *name, const void *value, size_t size, int flags) {
+    return fails("FSETXATTR") ? -1 : syscall(SYS_fsetxattr, file, name, value, size, flags);
+}
+"#;
+
+/// Runs a script as `shell` does, with such functions; nothing, and a sentence, if there is no compiler.
+pub fn faulty(folder: &Folder, variable: &str, script: &str) -> Option<Ran> {
+    let source = folder.file("faults.c", FAULTS);
+    let library = folder.path("faults.so");
+    let compiled = Command::new("cc")
+        .args(["-shared", "-fPIC", "-o"])
+        .args([&library, &source])
+        .status();
+    if !compiled.is_ok_and(|status| status.success()) {
+        eprintln!("no compiler for C: skipped");
+        return None;
+    }
+    let script = format!("export {variable} LD_PRELOAD=$PWD/faults.so; {script}");
+    let ran = Ran::new(shell(folder, &script));
+    for file in [source, library] {
+        fs::remove_file(file).expect("it was made here");
+    }
+    Some(ran)
+}
+
 /// As on a full disk: no file grows beyond 1,024 bytes.
 pub const FULL_DISK: &str = "trap '' XFSZ; ulimit -f 1;";
 

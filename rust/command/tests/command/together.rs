@@ -10,6 +10,7 @@ use std::time::Duration;
 
 const ROUNDS: usize = 50;
 const EMPTY: &str = "a:0:{}";
+const EDIT: &str = concat!(env!("CARGO_MANIFEST_DIR"), "/../../examples/edit.php");
 
 /// Puts in a pair with this key; the plan and where the result goes are still to be said.
 fn insert(folder: &Folder, key: usize) -> Command {
@@ -115,6 +116,41 @@ fn eight_writers() {
 fn writers_from_standard_input() {
     writers(2, &[from_standard_input]);
     writers(4, &[from_standard_input, in_place]);
+}
+
+/// PHP's edits, as the guide shows them, raise day 1; the command's put in keys.
+#[test]
+fn writers_in_php() {
+    if Command::new("php").arg("-v").output().is_err() {
+        eprintln!("no php: skipped");
+        return;
+    }
+    let folder = Folder::new();
+    let plan = folder.file("plan", "a:1:{i:1;d:9.5;}");
+    let mut children = Vec::new();
+    for key in 2..2 + ROUNDS {
+        let php = Command::new("php")
+            .args(["-n", EDIT, "plan"])
+            .current_dir(folder.path(""))
+            .stdout(Stdio::piped())
+            .stderr(Stdio::piped())
+            .spawn();
+        let mut insert = insert(&folder, key);
+        insert.args(["plan", "--in-place", "--wait=60"]);
+        children.extend([php.unwrap(), insert.spawn().unwrap()]);
+    }
+    for child in children {
+        let ran = Ran::new(child.wait_with_output().unwrap());
+        assert_eq!((ran.status, ran.error.as_str()), (Some(0), ""));
+        assert!(
+            ran.out.is_empty() || ran.out.starts_with(b"day 1 has "),
+            "{ran:?}"
+        );
+    }
+    let plan = fs::read_to_string(plan).unwrap();
+    let start = format!("a:{}:{{i:1;d:34.5;", ROUNDS + 1);
+    assert!(plan.starts_with(&start), "{plan}");
+    assert_eq!(names(&folder.path("")), ["plan"]);
 }
 
 fn locked(folder: &Folder, name: &str) -> File {

@@ -29,6 +29,7 @@ const CODE: [(&str, &[&str]); 4] = [
         &[
             "examples/give.php",
             "examples/take.php",
+            "examples/edit.php",
             "examples/leap.php",
         ],
     ),
