@@ -1,5 +1,6 @@
 //! What was probably meant by a key or a value that the library refused as unfit (13). These are
-//! guesses: each is put to the library, and none is told that it would refuse again.
+//! guesses: each is put to the library, and none is told that it would refuse again, or that may
+//! well be wrong: who copies it would put wrong data in.
 
 mod guesses;
 mod number;
@@ -44,7 +45,7 @@ impl Role {
 pub struct Meant {
     /// What is wrong, in words that stand alone.
     why: String,
-    /// A fit text; none where it is doubtful what is meant: wrong data is worse than none.
+    /// A fit text; none where it is doubtful what is meant.
     text: Option<Vec<u8>>,
 }
 
@@ -76,16 +77,11 @@ pub fn meant(text: &[u8], role: Role) -> Option<Meant> {
     let fit = guesses(text)
         .into_iter()
         .find(|guess| role.fits(&guess.text));
-    match fit {
-        Some(guess) => Some(Meant {
-            why: guess.why,
-            text: Some(guess.text),
-        }),
-        None => Some(Meant {
-            why: hopeless(text, role).into(),
-            text: None,
-        }),
-    }
+    let (why, text) = match fit {
+        Some(guess) => (guess.why, Some(guess.text)),
+        None => (hopeless(text, role).into(), None),
+    };
+    Some(Meant { why, text })
 }
 
 /// Why nothing is told that is fit.

@@ -14,6 +14,8 @@ use tonschnecke::{Plan, Reason, Refusal, SOURCE_LIMIT};
 const JSON: &str = "this is JSON; in PHP, serialize(json_decode(..., true)) makes a plan of it; \
                     classes and sharing are not in JSON";
 const JSON_STRING: &str = "this is a JSON string; in PHP, json_decode gives the plan";
+const FULL: &str = "its first 65,536 bytes are a plan, and a newline follows; \
+                    without it: head -c 65536 FILE > NEW";
 const SESSION: &str = "this is a PHP session, a plan behind each |; \
                        in PHP, serialize($_SESSION) makes one plan of all";
 
@@ -55,12 +57,7 @@ fn is_newline(bytes: &[u8]) -> bool {
 /// A plan as long as can be, and a newline. What else may follow was not read.
 fn full(source: &[u8]) -> Option<String> {
     let (plan, rest) = source.split_at_checked(SOURCE_LIMIT)?;
-    (is_newline(rest) && Plan::read(plan).is_ok()).then(|| {
-        format!(
-            "its first {SOURCE_LIMIT} bytes are a plan, and a newline follows; \
-             without it: head -c {SOURCE_LIMIT} FILE > NEW"
-        )
-    })
+    (is_newline(rest) && Plan::read(plan).is_ok()).then(|| FULL.into())
 }
 
 fn letter(text: &[u8]) -> Option<String> {

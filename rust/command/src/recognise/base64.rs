@@ -12,7 +12,7 @@ const OTHER: &str = "this is base64 for URLs or without padding; decode it first
 pub fn advice(text: &[u8], wanted: impl Fn(&[u8]) -> bool) -> Option<&'static str> {
     let bytes = decoded(text)?;
     // Of a longer one the end was not read.
-    let padded = text.len() > SOURCE_LIMIT || without_lines(text).len() % 4 == 0;
+    let padded = text.len() > SOURCE_LIMIT || without_lines(text).len().is_multiple_of(4);
     let plain = padded && !text.iter().any(|byte| b"-_".contains(byte));
     wanted(&bytes).then_some(if plain { PADDED } else { OTHER })
 }

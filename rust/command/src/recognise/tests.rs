@@ -196,7 +196,7 @@ fn a_newline_behind_the_longest_plan() {
     let text = "x".repeat(SOURCE_LIMIT - "s:65525:\"\";".len());
     let plan = format!("s:{}:\"{text}\";", text.len());
     assert_eq!(plan.len(), SOURCE_LIMIT);
-    let said = "its first 65536 bytes are a plan, and a newline follows; \
+    let said = "its first 65,536 bytes are a plan, and a newline follows; \
                 without it: head -c 65536 FILE > NEW";
     for newline in ["\n", "\r\n"] {
         let source = plan.clone() + newline;

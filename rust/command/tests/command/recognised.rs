@@ -134,7 +134,7 @@ fn a_newline_behind_the_longest_plan() {
     refused(
         plan.as_bytes(),
         "refused 1 at 0: the plan is longer than 65,536 bytes; \
-         its first 65536 bytes are a plan, and a newline follows; \
+         its first 65,536 bytes are a plan, and a newline follows; \
          without it: head -c 65536 FILE > NEW\n",
     );
 }
