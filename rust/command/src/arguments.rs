@@ -95,6 +95,7 @@ fn understood(given: &mut Given) -> Result<Request, String> {
 fn asked_for_help(topic: Option<&OsStr>) -> Result<&'static str, String> {
     match topic {
         None => Ok(help::OVERVIEW),
+        Some(topic) if topic == "help" => Ok(help::OVERVIEW),
         Some(topic) => {
             help::on(topic).ok_or_else(|| format!("there is no help on {}", shown(topic)))
         }

@@ -8,6 +8,7 @@ use std::os::fd::{BorrowedFd, RawFd};
 
 pub const STANDARD_INPUT: RawFd = 0;
 pub const STANDARD_OUTPUT: RawFd = 1;
+pub const STANDARD_ERROR: RawFd = 2;
 
 /// A duplicate of an open one, which goes on where that is. Errors are told that Rust's own
 /// `stdin` and `stdout` keep to themselves.

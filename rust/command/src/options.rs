@@ -121,10 +121,9 @@ fn option(
         (Some((name, true)), Some(value)) => Ok((name, OsString::from_vec(value.to_vec()))),
         (Some((name, true)), None) => match rest.next() {
             // Who means the text says so, with the sign.
-            Some(value) if OPTIONS.iter().any(|(option, _)| value == *option) => Err(format!(
-                "{name} needs a value, and {} is an option",
-                shown(&value)
-            )),
+            Some(value) if value == "--" || OPTIONS.iter().any(|known| value == known.0) => Err(
+                format!("{name} needs a value, and {} is an option", shown(&value)),
+            ),
             Some(value) => Ok((name, value)),
             None => Err(format!("{name} needs a value")),
         },

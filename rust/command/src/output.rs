@@ -155,6 +155,9 @@ fn find_way(job: &Job, file: &Path) -> Result<Way, Unreplaced> {
             input: None,
             wait: job.wait,
         })),
+        Target::Open(_) if job.destination.is_in_place() => {
+            wrong("it has no name that a file can be renamed to")
+        }
         _ if job.destination.is_in_place() => wrong("not a regular file"),
         Target::Open(file) => Ok(Way::Open(file)),
         Target::Stream => Ok(Way::Stream),

@@ -107,7 +107,9 @@ fn value(given: &mut Given) -> Result<Vec<u8>, String> {
     let (name, text) = given.one_of(&VALUES, "a value")?;
     match name {
         "--value" => Ok(text.into_vec()),
-        "--int" => integer(name, &text),
+        "--int" => {
+            integer(name, &text).map_err(|message| message + "; one with a point is a --float")
+        }
         "--float" => float(name, &text),
         "--string" => Ok(serialized::string(text.as_bytes())),
         "--null" => Ok(serialized::null()),
@@ -131,7 +133,7 @@ fn float(name: &str, text: &OsStr) -> Result<Vec<u8>, String> {
     Err(unfit(
         name,
         text,
-        "no float; it has digits and a point, as 9.5",
+        "no float; it has digits and a point, as 9.5, or is INF, -INF or NAN",
     ))
 }
 

@@ -3,6 +3,7 @@
 use crate::attributes;
 use crate::lock::{leads_to, lock};
 use crate::output::buffered;
+use crate::signals;
 use crate::target::{folder, Target};
 use crate::temporary::{self, Temporary};
 use std::fs::{File, Permissions};
@@ -68,6 +69,7 @@ impl Replacement {
         if self.is_changed(source)? || self.leads_elsewhere()? || rights(old)? != taken {
             return Err(Unreplaced::Changed);
         }
+        signals::hold();
         new.rename(&self.name)?;
         temporary::remove_left(&self.name, self.input);
         sync(&folder).map_err(Unreplaced::Unsynced)

@@ -1,7 +1,9 @@
 //! What an edit did, said on standard error.
 
 use crate::arguments::Job;
+use crate::descriptors::{self, STANDARD_ERROR, STANDARD_OUTPUT};
 use crate::input;
+use crate::lock::identity;
 use crate::output::Destination;
 use std::io::{self, Write};
 use tonschnecke::lent::Insertion;
@@ -24,9 +26,20 @@ pub fn say(job: &Job, sentence: impl FnOnce() -> String) {
         true => "dry run, nothing is written: ",
         false => "",
     };
-    let line = format!("{file}{dry_run}{}\n", sentence());
+    let new_line = if follows_plan(job) { "\n" } else { "" };
+    let line = format!("{new_line}{file}{dry_run}{}\n", sentence());
     // The plan is written: where standard error fails, the status still says so.
     let _ = io::stderr().write_all(line.as_bytes());
+}
+
+/// Whether it stands behind the plan, which ends no line: on a terminal, or in one file with it.
+fn follows_plan(job: &Job) -> bool {
+    let printed = matches!(job.destination, Destination::StandardOutput);
+    let file = |number| {
+        let metadata = descriptors::duplicate(number).and_then(|file| file.metadata());
+        metadata.ok().as_ref().map(identity)
+    };
+    printed && !job.dry_run && !job.heading && file(STANDARD_OUTPUT) == file(STANDARD_ERROR)
 }
 
 pub fn of_insertion(insertion: Insertion<'_>, old: &Plan, new: &Plan) -> String {

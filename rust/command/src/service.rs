@@ -3,9 +3,9 @@
 use crate::arguments::{Job, Service};
 use crate::failure::Failure;
 use crate::input::{self, Input};
-use crate::output::{Destination, Output};
+use crate::output::Output;
 use crate::pair::{Array, Pair, Place};
-use crate::{refusal, report};
+use crate::{refusal, report, signals};
 use std::io::{self, Write};
 use tonschnecke::lent::Insertion;
 use tonschnecke::{Kind, Nowhere, Plan, Value};
@@ -13,9 +13,9 @@ use tonschnecke::{Kind, Nowhere, Plan, Value};
 /// Nothing is written before the library has accepted.
 pub fn run(job: &Job) -> Result<(), Failure> {
     let of_file = |failure: Failure| failure.of(job.file.as_deref(), job.heading);
-    Task::start(job)
-        .and_then(|task| task.perform())
-        .map_err(of_file)
+    let outcome = Task::start(job).and_then(|task| task.perform());
+    signals::release();
+    outcome.map_err(of_file)
 }
 
 /// A job whose plan was read.
@@ -74,22 +74,15 @@ impl<'a> Task<'a> {
 
     /// Writes the new plan's bytes and nothing else, and says what was done.
     fn write(&self, new: &Plan, done: impl FnOnce() -> String) -> Result<(), Failure> {
-        let put = || {
-            self.print(|out| {
-                out.write_all(new.bytes())?;
-                if self.job.heading {
-                    writeln!(out)?;
-                }
-                Ok(())
-            })
-        };
-        // A plan ends no line: on a terminal, what is said behind it would stand on its last one.
-        if let Destination::StandardOutput = self.job.destination {
-            report::say(self.job, done);
-            put()
-        } else {
-            put().map(|()| report::say(self.job, done))
-        }
+        self.print(|out| {
+            out.write_all(new.bytes())?;
+            if self.job.heading {
+                writeln!(out)?;
+            }
+            Ok(())
+        })?;
+        report::say(self.job, done);
+        Ok(())
     }
 }
 

@@ -7,7 +7,7 @@ use std::os::unix::ffi::OsStrExt;
 use std::path::Path;
 use std::process;
 use std::ptr;
-use std::sync::atomic::{AtomicPtr, Ordering};
+use std::sync::atomic::{AtomicBool, AtomicI32, AtomicPtr, Ordering};
 
 const SIGHUP: c_int = 1;
 const SIGINT: c_int = 2;
@@ -37,6 +37,10 @@ extern "C" {
 /// The file that a signal removes; null if there is none.
 static TEMPORARY: AtomicPtr<c_char> = AtomicPtr::new(ptr::null_mut());
 
+/// Whether a signal has to wait, and the one that does; 0 if none does.
+static HELD: AtomicBool = AtomicBool::new(false);
+static WAITING: AtomicI32 = AtomicI32::new(0);
+
 /// From now on a signal that ends the command removes this file first, be it there yet or not.
 pub fn remove_if_ended(file: &Path) {
     let path = CString::new(file.as_os_str().as_bytes()).expect("a path has no NUL");
@@ -60,10 +64,29 @@ pub fn remove_nothing() {
     TEMPORARY.store(ptr::null_mut(), Ordering::SeqCst);
 }
 
+/// From now on a signal waits: what is about to be done is to be said, too.
+pub fn hold() {
+    HELD.store(true, Ordering::SeqCst);
+}
+
+/// All is done and said: a signal that waits ends the command.
+pub fn release() {
+    HELD.store(false, Ordering::SeqCst);
+    let number = WAITING.swap(0, Ordering::SeqCst);
+    if number != 0 {
+        remove_and_end(number);
+    }
+}
+
 extern "C" fn remove_and_end(number: c_int) {
+    if HELD.load(Ordering::SeqCst) {
+        WAITING.store(number, Ordering::SeqCst);
+        return;
+    }
     let path = TEMPORARY.load(Ordering::SeqCst);
     // SAFETY: the path is null or a C string that is never freed; the three functions are
-    // async-signal-safe. The signal raised is blocked until this returns, and ends the command then.
+    // async-signal-safe. In a handler the signal raised is blocked until this returns, and ends the
+    // command then.
     unsafe {
         if !path.is_null() {
             unlink(path);

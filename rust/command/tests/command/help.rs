@@ -32,7 +32,12 @@ fn fits_80_columns() {
 #[test]
 fn of_all_is_given_in_each_way() {
     let overview = text(&["help"]);
-    for arguments in [&["--help"][..], &["-h"], &["--help", "list"]] {
+    for arguments in [
+        &["--help"][..],
+        &["-h"],
+        &["--help", "list"],
+        &["help", "help"],
+    ] {
         assert_eq!(text(arguments), overview, "{arguments:?}");
     }
     for name in SUBCOMMANDS {

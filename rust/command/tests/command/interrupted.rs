@@ -5,7 +5,7 @@ use crate::run::{
 };
 use std::fs::{self, File};
 use std::os::unix::process::ExitStatusExt;
-use std::process::{Command, ExitStatus};
+use std::process::{Command, ExitStatus, Output, Stdio};
 use std::thread::sleep;
 use std::time::{Duration, Instant};
 
@@ -14,10 +14,9 @@ const TERMINATE: (&str, i32) = ("TERM", 15);
 const HANG_UP: (&str, i32) = ("HUP", 1);
 const KILL: (&str, i32) = ("KILL", 9);
 
-const INSERT: [&str; 8] = [
+const INSERT: [&str; 7] = [
     "insert",
     "plan",
-    "--quiet",
     "--in-place",
     "--array=/months/2",
     "--at=end",
@@ -38,7 +37,7 @@ fn year() -> (Folder, [Vec<u8>; 2]) {
     let folder = Folder::new();
     let old = fs::read(YEAR).unwrap();
     let plan = folder.file("plan", &old);
-    assert!(insert(&folder).status().unwrap().success());
+    assert!(insert(&folder).output().unwrap().status.success());
     let new = fs::read(&plan).unwrap();
     assert_ne!(old, new);
     (folder, [old, new])
@@ -49,7 +48,7 @@ fn duration() -> Duration {
     let (folder, [old, _]) = year();
     folder.file("plan", old);
     let start = Instant::now();
-    assert!(insert(&folder).status().unwrap().success());
+    assert!(insert(&folder).output().unwrap().status.success());
     start.elapsed()
 }
 
@@ -61,14 +60,17 @@ fn ended_by(signal: (&str, i32), look: impl Fn(&Folder)) {
     let mut ended = 0;
     for moment in 0..100 {
         folder.file("plan", &old);
-        let mut child = insert(&folder).spawn().unwrap();
+        let child = insert(&folder).stderr(Stdio::piped()).spawn().unwrap();
         sleep(step * moment);
         sender.send(signal.0, &child);
-        let status = child.wait().unwrap();
+        let Output { status, stderr, .. } = child.wait_with_output().unwrap();
         ended += i32::from(status.signal() == Some(signal.1));
         assert!(status.success() || status.signal() == Some(signal.1));
         let left = fs::read(folder.path("plan")).unwrap();
         assert!(left == new || left == old && !status.success());
+        // What was done was said, and nothing else, but for a kill between the two.
+        let said = stderr.starts_with(b"plan: 1 pair put in ");
+        assert!(said == (left == new) || signal == KILL);
         look(&folder);
     }
     sender.end();

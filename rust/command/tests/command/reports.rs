@@ -1,7 +1,7 @@
 //! What an edit says that it did.
 
-use crate::run::{names, run, Folder, Ran, YEAR};
-use std::fs;
+use crate::run::{command, names, run, shell, Folder, Ran, YEAR};
+use std::fs::{self, File};
 
 fn said(ran: &Ran, error: &str) {
     assert_eq!((ran.status, ran.error.as_str()), (Some(0), error));
@@ -122,4 +122,30 @@ fn of_canonical_text() {
         said(&ran, &format!("{plan}: {done}\n"));
         assert_eq!(fs::read(plan).unwrap(), b"a:1:{i:0;N;}");
     }
+}
+
+#[test]
+fn is_not_said_where_the_plan_cannot_be_written() {
+    let insert = ["insert", YEAR, "--at=end"].into_iter().chain(DAY);
+    let full = File::options().write(true).open("/dev/full").unwrap();
+    let ran = Ran::new(command(insert).stdout(full).output().unwrap());
+    ran.fails(
+        2,
+        "tonschnecke: cannot write to standard output: No space left on device (os error 28)\n",
+    );
+}
+
+#[test]
+fn stands_on_its_own_line() {
+    let folder = Folder::new();
+    folder.file("plan", "a:0:{}");
+    let said = "1 pair put in at place 0 of /, no reference raised\n";
+    let script = "exec \"$0\" insert plan --array / --at end --int-key 7 --null";
+    let ran = Ran::new(shell(&folder, &format!("{script} 2>&1")));
+    ran.gives(format!("a:1:{{i:7;N;}}\n{said}"));
+    let ran = Ran::new(shell(&folder, script));
+    assert_eq!(
+        (ran.out.as_slice(), ran.error.as_str()),
+        (&b"a:1:{i:7;N;}"[..], said)
+    );
 }

@@ -3,7 +3,7 @@
 use crate::run::{command, pipe, run, Folder, Ran, YEAR};
 
 /// Arguments, parted by spaces, and what is said of them.
-const MISTAKES: [(&str, &str); 43] = [
+const MISTAKES: [(&str, &str); 44] = [
     ("", "a subcommand is missing"),
     ("--", "a subcommand is missing"),
     ("list", "unknown subcommand list"),
@@ -32,6 +32,7 @@ const MISTAKES: [(&str, &str); 43] = [
         "show a -o --quiet",
         "-o needs a value, and --quiet is an option",
     ),
+    ("show a -o --", "-o needs a value, and -- is an option"),
     (
         "help show nodes",
         "one subcommand is enough; what is nodes?",
@@ -108,10 +109,10 @@ const UNFIT: [(&str, &str, &str); 22] = [
     ("--after", "%", "in a path, two hexadecimal digits follow each %"),
     ("--int-key", "29x", "no integer of 64 bits"),
     ("--int-key", "9223372036854775808", "no integer of 64 bits"),
-    ("--int", "9.5", "no integer of 64 bits"),
-    ("--float", "9,5", "no float; it has digits and a point, as 9.5"),
-    ("--float", "", "no float; it has digits and a point, as 9.5"),
-    ("--float", "9.5;i:3", "no float; it has digits and a point, as 9.5"),
+    ("--int", "9.5", "no integer of 64 bits; one with a point is a --float"),
+    ("--float", "9,5", "no float; it has digits and a point, as 9.5, or is INF, -INF or NAN"),
+    ("--float", "", "no float; it has digits and a point, as 9.5, or is INF, -INF or NAN"),
+    ("--float", "9.5;i:3", "no float; it has digits and a point, as 9.5, or is INF, -INF or NAN"),
     ("--after", "i:2;", "here a key is written as in a path: 2"),
     ("--before", "s:3:\"a b\";", "here a key is written as in a path: a%20b"),
     ("--array", "months", "a path begins with /"),
