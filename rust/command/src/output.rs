@@ -9,6 +9,7 @@ use crate::replace::{Replacement, Unreplaced};
 use crate::target::Target;
 use std::fs::File;
 use std::io::{self, BufWriter, ErrorKind, Write};
+use std::os::fd::RawFd;
 use std::path::{Path, PathBuf};
 use std::time::Duration;
 
@@ -38,7 +39,7 @@ pub struct Output<'a> {
 enum Way {
     StandardOutput,
     /// A descriptor that was named.
-    Open(File),
+    Open(RawFd),
     /// Opened when it is written.
     Stream,
     Replacement(Replacement),
@@ -104,7 +105,9 @@ impl<'a> Output<'a> {
             Way::StandardOutput => descriptors::duplicate(STANDARD_OUTPUT)
                 .and_then(|output| buffered(output, fill).map(drop))
                 .map_err(Unreplaced::Trouble),
-            Way::Open(file) => write_directly(file, fill).map_err(Unreplaced::Trouble),
+            Way::Open(number) => descriptors::duplicate(*number)
+                .and_then(|file| write_directly(&file, fill))
+                .map_err(Unreplaced::Trouble),
             // What others wrote to a file that is open stays.
             Way::Stream => File::options()
                 .append(true)
@@ -159,7 +162,7 @@ fn find_way(job: &Job, file: &Path) -> Result<Way, Unreplaced> {
             wrong("it has no name that a file can be renamed to")
         }
         _ if job.destination.is_in_place() => wrong("not a regular file"),
-        Target::Open(file) => Ok(Way::Open(file)),
+        Target::Open(number) => Ok(Way::Open(number)),
         Target::Stream => Ok(Way::Stream),
     }
 }

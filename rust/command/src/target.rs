@@ -1,9 +1,9 @@
 //! Where a name for the output leads.
 
-use crate::descriptors;
 use std::ffi::OsStr;
-use std::fs::{self, File};
+use std::fs;
 use std::io::{self, ErrorKind};
+use std::os::fd::RawFd;
 use std::os::unix::ffi::OsStrExt;
 use std::os::unix::fs::MetadataExt;
 use std::path::{Path, PathBuf};
@@ -17,7 +17,7 @@ pub enum Target {
     /// A regular file, or none yet: the last name, behind all symbolic links.
     Name(PathBuf),
     /// One of the command's own descriptors.
-    Open(File),
+    Open(RawFd),
     /// A pipe, a device or a file that another process has open, under the name given.
     Stream,
 }
@@ -34,7 +34,7 @@ impl Target {
             match found {
                 Some(link) if link.is_symlink() => {
                     if is_in_proc(link.dev()) {
-                        return open_file(&name);
+                        return Ok(open_file(&name));
                     }
                     name = folder(&name).join(fs::read_link(&name)?);
                 }
@@ -69,13 +69,13 @@ fn stands_in_proc(name: &Path) -> bool {
     fs::metadata(folder(name)).is_ok_and(|folder| is_in_proc(folder.dev()))
 }
 
-fn open_file(link: &Path) -> io::Result<Target> {
+fn open_file(link: &Path) -> Target {
     let real = |folder: &Path| fs::canonicalize(folder).ok();
     let own = real(folder(link)) == real(Path::new("/proc/self/fd"));
     let number = link.file_name().and_then(OsStr::to_str);
     match number.and_then(|number| number.parse().ok()) {
-        // Opened anew, it would begin at its start, and what is written to it by others overwrites that.
-        Some(number) if own => descriptors::duplicate(number).map(Target::Open),
-        _ => Ok(Target::Stream),
+        // Opened anew, it would begin at its start, and what others write to it would overwrite that.
+        Some(number) if own => Target::Open(number),
+        _ => Target::Stream,
     }
 }

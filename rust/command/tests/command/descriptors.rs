@@ -217,9 +217,9 @@ fn a_descriptor_that_nobody_gave() {
     for number in 3..8 {
         let name = format!("/dev/fd/{number}");
         let ran = run(["canonical", YEAR, "-o", &name]);
-        ran.fails(
-            2,
-            &format!("tonschnecke: cannot write to {name}: {error}\n"),
-        );
+        let told = format!("tonschnecke: cannot write to {name}: {error}\n");
+        ran.fails(2, &told);
+        let ran = run(["canonical", &name, "-o", "/dev/stdout"]);
+        ran.fails(2, &format!("tonschnecke: cannot read {name}: {error}\n"));
     }
 }
