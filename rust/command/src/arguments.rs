@@ -1,11 +1,15 @@
 //! The arguments, and what they ask for.
 
-use crate::escape::shown;
+mod help;
+mod options;
+pub mod pair;
+
 use crate::failure::Failure;
-use crate::options::{number, Given};
-use crate::output::Destination;
-use crate::pair::Pair;
-use crate::{help, input};
+use crate::files::input;
+use crate::files::output::Destination;
+use crate::words::escape::shown;
+use options::{number, Given};
+use pair::Pair;
 use std::ffi::{OsStr, OsString};
 use std::os::unix::ffi::OsStrExt;
 use std::path::PathBuf;
@@ -55,16 +59,12 @@ impl Service {
 }
 
 pub fn parse(arguments: impl Iterator<Item = OsString>) -> Result<Request, Failure> {
-    let mut help = "help".to_owned();
-    let arguments = arguments.inspect(|argument| {
-        let topic = argument.to_str().filter(|_| help == "help");
-        if let Some(topic) = topic.filter(|topic| help::on(topic.as_ref()).is_some()) {
-            help = format!("help {topic}");
-        }
-    });
-    Given::scan(arguments)
+    let arguments: Vec<OsString> = arguments.collect();
+    let topic = arguments.iter().find(|word| help::on(word).is_some());
+    let help = topic.map_or("help".into(), |topic| format!("help {}", shown(topic)));
+    Given::scan(arguments.into_iter())
         .and_then(|mut given| understood(&mut given))
-        .map_err(|message| Failure::Usage(message, help))
+        .map_err(|message| Failure::Usage { message, help })
 }
 
 fn understood(given: &mut Given) -> Result<Request, String> {

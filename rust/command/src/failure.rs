@@ -1,7 +1,7 @@
 //! Why the command ends without its result.
 
-use crate::input;
-use crate::signals;
+use crate::files::input;
+use crate::files::signals;
 use std::io::{self, Write};
 use std::path::Path;
 
@@ -9,8 +9,12 @@ use std::path::Path;
 pub enum Failure {
     /// The library refused.
     Refused(String),
-    /// The arguments are not understood; with the words that ask for the right help.
-    Usage(String, String),
+    /// The arguments are not understood.
+    Usage {
+        message: String,
+        /// The words that ask for what would have helped.
+        help: String,
+    },
     /// A file cannot be read or written.
     Trouble(String),
     /// The plan has no such path.
@@ -40,10 +44,10 @@ impl Failure {
     pub fn report(self) -> u8 {
         let (message, status) = match self {
             Failure::Refused(message) => (format!("{message}\n"), 1),
-            Failure::Usage(message, help) => {
-                let try_help = format!("Try 'tonschnecke {help}'.");
-                (format!("tonschnecke: {message}\n{try_help}\n"), 2)
-            }
+            Failure::Usage { message, help } => (
+                format!("tonschnecke: {message}\nTry 'tonschnecke {help}'.\n"),
+                2,
+            ),
             Failure::Trouble(message) => (format!("tonschnecke: {message}\n"), 2),
             Failure::Nowhere(message) => (format!("tonschnecke: {message}\n"), 3),
             Failure::Busy(message) => (format!("tonschnecke: {message}\n"), 4),

@@ -2,30 +2,15 @@
 //! Everything that matters is done by the proved library; this reads, writes and explains.
 
 mod arguments;
-mod attributes;
-mod descriptors;
-mod escape;
 mod failure;
-mod help;
-mod input;
-mod itself;
-mod lock;
-mod meant;
-mod options;
-mod output;
-mod pair;
-mod recognise;
-mod refusal;
-mod replace;
-mod report;
+mod files;
 mod service;
-mod signals;
-mod target;
-mod temporary;
+mod words;
 
 use arguments::{Job, Request};
 use failure::Failure;
-use output::Output;
+use files::onto_plan;
+use files::output::Output;
 use std::env;
 use std::process::ExitCode;
 
@@ -43,7 +28,7 @@ fn main() -> ExitCode {
 
 /// A plan that fails keeps none of the others, and the greatest status is given.
 fn run(jobs: &[Job]) -> u8 {
-    if let Err(failure) = itself::refuse(jobs) {
+    if let Err(failure) = onto_plan::refuse(jobs) {
         return failure.report();
     }
     let statuses = jobs.iter().map(|job| status(service::run(job)));

@@ -1,11 +1,12 @@
 //! The four subcommands, each on the library's services.
 
+use crate::arguments::pair::{Array, Pair, Place};
 use crate::arguments::{Job, Service};
 use crate::failure::Failure;
-use crate::input::{self, Input};
-use crate::output::Output;
-use crate::pair::{Array, Pair, Place};
-use crate::{refusal, report, signals};
+use crate::files::input::{self, Input};
+use crate::files::output::Output;
+use crate::files::signals;
+use crate::words::{refusal, report};
 use std::io::{self, Write};
 use tonschnecke::lent::Insertion;
 use tonschnecke::{Kind, Nowhere, Plan, Value};

@@ -70,7 +70,8 @@ impl Plan {
             ordinals: rows.iter().filter(|row| row[1] != 0).count(),
         };
         for container in 0..plan.rows.len() {
-            for value in plan.values_in(container).collect::<Vec<_>>() {
+            let children = Value::new(&plan, container).children();
+            for value in children.map(|(_, value)| value.node()).collect::<Vec<_>>() {
                 plan.holders[value] = container as u32;
             }
         }
@@ -215,13 +216,6 @@ impl Plan {
     pub(crate) fn holder(&self, value: usize) -> Option<usize> {
         let holder = self.holders[value];
         (holder != NO_HOLDER).then_some(holder as usize)
-    }
-
-    /// The values in a container. Each one's key is the node before it.
-    fn values_in(&self, container: usize) -> impl Iterator<Item = usize> + '_ {
-        Value::new(self, container)
-            .children()
-            .map(|(_, value)| value.node())
     }
 
     /// The key that this node, which is a key's, has.

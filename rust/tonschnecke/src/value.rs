@@ -236,7 +236,12 @@ impl<'a> Value<'a> {
 
     /// How deep it stands: the root at depth 1, and nothing deeper than 64.
     pub fn depth(self) -> usize {
-        std::iter::successors(Some(self), |value| value.container()).count()
+        self.upwards().count()
+    }
+
+    /// Itself, and what holds it, to the root.
+    fn upwards(self) -> impl Iterator<Item = Value<'a>> {
+        std::iter::successors(Some(self), |value| value.container())
     }
 
     /// The path that leads to it.
@@ -248,8 +253,7 @@ impl<'a> Value<'a> {
     /// # Ok::<(), tonschnecke::Refusal>(())
     /// ```
     pub fn path(self) -> Path<'a> {
-        let values = std::iter::successors(Some(self), |value| value.container());
-        let mut keys: Vec<_> = values.filter_map(Value::key).collect();
+        let mut keys: Vec<_> = self.upwards().filter_map(Value::key).collect();
         keys.reverse();
         Path::new(keys)
     }

@@ -73,6 +73,10 @@ fn values_know_where_they_stand() {
     assert_eq!(plan.path("/R").unwrap().target(), Some(array));
     assert_eq!(array.target(), None);
     assert_eq!(array.resolved(), array);
+    // Of an equal plan it is another value.
+    let again = plan.clone();
+    assert_ne!(again.root(), root);
+    assert_ne!(root, array);
 }
 
 #[test]

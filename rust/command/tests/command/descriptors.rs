@@ -35,21 +35,16 @@ fn edited_since(folder: &Folder, arguments: &str) -> Ran {
 
 #[test]
 fn a_plan_replaced_since_it_was_opened() {
-    for name in OPEN {
+    // With another name it is not deleted when it is replaced.
+    for (name, linked) in OPEN
+        .into_iter()
+        .flat_map(|name| [(name, false), (name, true)])
+    {
         let folder = Folder::new();
-        folder.file("plan", EMPTY);
-        let insert = format!("{INSERT} --key='i:1;' {name} -o plan");
-        edited_since(&folder, &insert).fails(4, CHANGED);
-        assert_eq!(content(&folder, "plan"), "a:1:{i:0;N;}", "{name}");
-    }
-}
-
-#[test]
-fn a_plan_with_another_name_replaced_since_it_was_opened() {
-    for name in OPEN {
-        let folder = Folder::new();
-        folder.file("plan", EMPTY);
-        fs::hard_link(folder.path("plan"), folder.path("hard")).unwrap();
+        let plan = folder.file("plan", EMPTY);
+        if linked {
+            fs::hard_link(plan, folder.path("hard")).unwrap();
+        }
         let insert = format!("{INSERT} --key='i:1;' {name} -o plan");
         edited_since(&folder, &insert).fails(4, CHANGED);
         assert_eq!(content(&folder, "plan"), "a:1:{i:0;N;}", "{name}");

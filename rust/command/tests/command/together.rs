@@ -216,16 +216,21 @@ fn replace(folder: &Folder, content: &str) {
     fs::rename(new, folder.path("plan")).unwrap();
 }
 
+/// It waits for the lock, and then the name leads to another plan.
+fn replaced_meanwhile(folder: &Folder, way: Way) -> Ran {
+    let lock = locked(folder, "plan");
+    let mut child = way(folder, 7);
+    waits(&mut child);
+    replace(folder, "a:1:{i:0;N;}");
+    lock.unlock().unwrap();
+    Ran::new(child.wait_with_output().unwrap())
+}
+
 #[test]
 fn somebody_else_has_edited() {
     for way in [in_place, onto_itself, by_link] {
         let folder = plan_and_link(EMPTY);
-        let lock = locked(&folder, "plan");
-        let mut child = way(&folder, 7);
-        waits(&mut child);
-        replace(&folder, "a:1:{i:0;N;}");
-        lock.unlock().unwrap();
-        Ran::new(child.wait_with_output().unwrap()).gives("");
+        replaced_meanwhile(&folder, way).gives("");
         let plan = fs::read_to_string(folder.path("plan")).unwrap();
         assert_eq!(plan, "a:2:{i:0;N;i:7;N;}");
     }
@@ -234,12 +239,7 @@ fn somebody_else_has_edited() {
 #[test]
 fn what_was_read_is_no_longer_the_plan() {
     let folder = plan_and_link(EMPTY);
-    let lock = locked(&folder, "plan");
-    let mut child = from_standard_input(&folder, 7);
-    waits(&mut child);
-    replace(&folder, "a:1:{i:0;N;}");
-    lock.unlock().unwrap();
-    let ran = Ran::new(child.wait_with_output().unwrap());
+    let ran = replaced_meanwhile(&folder, from_standard_input);
     was_changed(&ran, &folder.path("plan"), "a:1:{i:0;N;}");
     // The shell had opened it before it was replaced.
     let mut child = insert(&folder, 7);

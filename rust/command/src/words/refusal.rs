@@ -1,9 +1,9 @@
 //! What a refusal means, for the one who asked.
 
-use crate::escape::columns;
 use crate::failure::Failure;
-use crate::meant::{meant, Role};
-use crate::recognise::recognise;
+use crate::words::escape::columns;
+use crate::words::meant::{meant, Role};
+use crate::words::recognise::recognise;
 use tonschnecke::escape::shortened;
 use tonschnecke::lent::Insertion;
 use tonschnecke::{Kind, Plan, Reason, Refusal};

@@ -1,11 +1,11 @@
 //! Replacing a file: a crash at any moment leaves the old content or the new, never a part.
 
-use crate::attributes;
-use crate::lock::{leads_to, lock};
-use crate::output::buffered;
-use crate::signals;
-use crate::target::{folder, Target};
-use crate::temporary::{self, Temporary};
+use crate::files::attributes;
+use crate::files::lock::{leads_to, lock};
+use crate::files::output::buffered;
+use crate::files::signals;
+use crate::files::target::{folder, Target};
+use crate::files::temporary::{self, Temporary};
 use std::fs::{File, Permissions};
 use std::io::{self, ErrorKind, Read, Write};
 use std::os::unix::fs::{fchown, MetadataExt, PermissionsExt};

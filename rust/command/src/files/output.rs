@@ -1,12 +1,12 @@
 //! Where the result goes.
 
 use crate::arguments::Job;
-use crate::descriptors::{self, STANDARD_OUTPUT};
-use crate::escape::shown;
 use crate::failure::Failure;
-use crate::input::Input;
-use crate::replace::{Replacement, Unreplaced};
-use crate::target::Target;
+use crate::files::descriptors::{self, STANDARD_OUTPUT};
+use crate::files::input::Input;
+use crate::files::replace::{Replacement, Unreplaced};
+use crate::files::target::Target;
+use crate::words::escape::shown;
 use std::fs::File;
 use std::io::{self, BufWriter, ErrorKind, Write};
 use std::os::fd::RawFd;

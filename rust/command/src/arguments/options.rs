@@ -1,6 +1,6 @@
 //! Options told apart from words, before either is understood.
 
-use crate::escape::shown;
+use crate::words::escape::shown;
 use std::collections::BTreeMap;
 use std::ffi::{OsStr, OsString};
 use std::os::unix::ffi::{OsStrExt, OsStringExt};

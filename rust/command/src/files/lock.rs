@@ -1,6 +1,6 @@
 //! The lock on a plan's file while it is edited. It is advisory, as flock(2) is, and ends with the process.
 
-use crate::replace::Unreplaced;
+use crate::files::replace::Unreplaced;
 use std::fs::{self, File, Metadata, TryLockError};
 use std::io::{self, ErrorKind};
 use std::os::unix::fs::MetadataExt;

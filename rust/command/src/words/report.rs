@@ -1,10 +1,10 @@
 //! What an edit did, said on standard error.
 
 use crate::arguments::Job;
-use crate::descriptors::{self, STANDARD_ERROR, STANDARD_OUTPUT};
-use crate::input;
-use crate::lock::identity;
-use crate::output::Destination;
+use crate::files::descriptors::{self, STANDARD_ERROR, STANDARD_OUTPUT};
+use crate::files::input;
+use crate::files::lock::identity;
+use crate::files::output::Destination;
 use std::io::{self, Write};
 use tonschnecke::lent::Insertion;
 use tonschnecke::{Kind, Plan};

@@ -1,8 +1,8 @@
 //! The pair to put in, and where: as people type it.
 
-use crate::escape::shown;
-use crate::meant::Role;
-use crate::options::{number, Given};
+use crate::arguments::options::{number, Given};
+use crate::words::escape::shown;
+use crate::words::meant::Role;
 use std::ffi::OsStr;
 use std::os::unix::ffi::{OsStrExt, OsStringExt};
 use tonschnecke::{serialized, Key, Kind, Path, Plan};

@@ -1,9 +1,9 @@
 //! A file beside the one that it is to replace. Its writer holds its lock, so that one that nobody
 //! holds is known to be left by a process that was killed.
 
-use crate::lock;
-use crate::signals;
-use crate::target::folder;
+use crate::files::lock;
+use crate::files::signals;
+use crate::files::target::folder;
 use std::ffi::{OsStr, OsString};
 use std::fs::{self, File, TryLockError};
 use std::hash::{BuildHasher, RandomState};

@@ -1,11 +1,11 @@
 //! Standard output that is the plan itself: what is printed would damage the plan.
 
 use crate::arguments::Job;
-use crate::descriptors::{self, STANDARD_OUTPUT};
 use crate::failure::Failure;
-use crate::input;
-use crate::lock::identity;
-use crate::output::Destination;
+use crate::files::descriptors::{self, STANDARD_OUTPUT};
+use crate::files::input;
+use crate::files::lock::identity;
+use crate::files::output::Destination;
 use std::fs::Metadata;
 
 /// To be called before the first job, since what it prints may damage a later one's plan.

@@ -1,10 +1,10 @@
 //! The plan's bytes, from a file or standard input.
 
-use crate::descriptors::{self, STANDARD_INPUT};
-use crate::escape::shown;
 use crate::failure::Failure;
-use crate::lock::{identity, leads_to};
-use crate::target::folder;
+use crate::files::descriptors::{self, STANDARD_INPUT};
+use crate::files::lock::{identity, leads_to};
+use crate::files::target::folder;
+use crate::words::escape::shown;
 use std::ffi::{OsStr, OsString};
 use std::fs::{self, File, Metadata};
 use std::io::{self, IsTerminal, Read, Write};
