@@ -77,6 +77,12 @@ fn values_know_where_they_stand() {
     let again = plan.clone();
     assert_ne!(again.root(), root);
     assert_ne!(root, array);
+    let mut children = root.children();
+    assert_eq!(
+        (children.len(), children.next().is_some(), children.len()),
+        (6, true, 5)
+    );
+    assert_eq!((children.by_ref().count(), children.next()), (5, None));
 }
 
 #[test]

@@ -80,7 +80,7 @@ fn place(given: &mut Given) -> Result<Place, String> {
         .map_err(|error| unfit(name, &text, &error.to_string()))
 }
 
-/// The key that the text is serialized.
+/// The key whose serialized text this is.
 fn serialized_key(text: &[u8]) -> Option<Key<'static>> {
     match Plan::read(text).ok()?.root().kind() {
         Kind::Integer(integer) => Some(integer.into()),

@@ -248,6 +248,38 @@ fn while_it_waits() {
     sender.end();
 }
 
+/// A signal that comes while one file is replaced ends the command behind it.
+#[test]
+fn among_several_files() {
+    const ODD: &[u8] = b"a:01:{i:0;N;}";
+    let mut sender = Sender::new();
+    let names: Vec<String> = (0..300).map(|number| format!("plan{number}")).collect();
+    for _ in 0..10 {
+        let folder = Folder::new();
+        for name in &names {
+            folder.file(name, ODD);
+        }
+        let canonical = [
+            "--default-signal=INT",
+            PROGRAM,
+            "canonical",
+            "--quiet",
+            "--in-place",
+        ];
+        let mut child = Command::new("env")
+            .args(canonical)
+            .args(&names)
+            .current_dir(folder.path(""))
+            .spawn()
+            .unwrap();
+        while fs::read(folder.path("plan0")).unwrap() == ODD {}
+        sender.send(INTERRUPT.0, &child);
+        assert_eq!(child.wait().unwrap().signal(), Some(INTERRUPT.1));
+        assert!(fs::read(folder.path("plan299")).unwrap() == ODD);
+    }
+    sender.end();
+}
+
 #[test]
 fn ignored_signals_stay_ignored() {
     let mut sender = Sender::new();
