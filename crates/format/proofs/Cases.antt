@@ -1,6 +1,6 @@
--- The worked cases of paper 01 hold of the definitions: computed by the checker. Assumes nothing.
+-- The worked cases of the papers hold of the definitions: computed by the checker. Assumes nothing.
 use lib.Dec.{T}
-use Rattle.format.specs.Cases.{hold, starred, unstarred, edges, insertions, large}
+use Rattle.format.specs.Cases.{hold, starred, unstarred, edges, insertions, pluses, large}
 
 -- THE STARRED CASES
 pub starred-hold : T (hold starred)
@@ -20,6 +20,11 @@ edges-hold = tt
 pub insertions-hold : T (hold insertions)
 unfolding hold
 insertions-hold = tt
+
+-- paper 02, L1
+pub pluses-hold : T (hold pluses)
+unfolding hold
+pluses-hold = tt
 
 pub large-hold : T (hold large)
 unfolding hold

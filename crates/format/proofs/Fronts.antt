@@ -10,11 +10,11 @@ use Rattle.format.specs.Bytes.{byte}
 use Rattle.format.specs.Kind.{tag}
 use Rattle.format.specs.Tree.{leaf, ref, branch, none, pair, count}
 use Rattle.format.specs.Syntax.{intKey, stringKey, null, bool, int, float, string, array, object, Spelling, Sign, unsigned, plus, minus, Literal, Quoted}
-use Rattle.format.specs.Syntax.{Key, Scalar, Container, refKind, Value, Values, writeNumber, writeSign, writeQuoted, writeInt, writeString, writeKey}
-use Rattle.format.specs.Syntax.{writeScalar, writeContainer, write, writePairs}
+use Rattle.format.specs.Syntax.{Key, Scalar, Container, refKind, Value, Values, plusText, numberText, writeNumber, writeSign, writeQuoted, writeInt}
+use Rattle.format.specs.Syntax.{writeString, writeKey, writeScalar, writeContainer, write, writePairs}
 
 pub number-front : (w : Spelling) (n : ℕ) (r s : List ℕ) → writeNumber w n (r ++ s) ≡ writeNumber w n r ++ s
-number-front w n r s = sym (append-assoc (spelled (w .zeros) n) r s)
+number-front w n r s = sym (append-assoc (numberText w n) r s)
 
 pub sign-front : (k : Sign) (r s : List ℕ) → writeSign k (r ++ s) ≡ writeSign k r ++ s
 sign-front unsigned r s = refl
@@ -67,13 +67,15 @@ mutual
       ∙ key-front k (write v (writePairs ps r)) s
 
 -- ---- lengths
-pub number-length : (w : Spelling) (n : ℕ) (r : List ℕ) → length (writeNumber w n r) ≡ w .zeros + length (decimal n) + length r
-number-length w n r = length-append (spelled (w .zeros) n) r ∙ ap (λ (m : ℕ). m + length r) (spelled-length (w .zeros) n)
+pub number-length : (w : Spelling) (n : ℕ) (r : List ℕ)
+    → length (writeNumber w n r) ≡ length (plusText (w .plus)) + w .zeros + length (decimal n) + length r
+number-length w n r =
+    omega (arith, length-append (numberText w n) r, length-append (plusText (w .plus)) (spelled (w .zeros) n), spelled-length (w .zeros) n)
 
 -- however it is spelled
 pub number-adds : (w : Spelling) (n : ℕ) (r : List ℕ) → length (writeNumber w n r) ≡ length (writeNumber w n []) + length r
 number-adds w n r = ap length (number-front w n [] r) ∙ length-append (writeNumber w n []) r
 
 pub quoted-length : (q : Quoted) (r : List ℕ)
-    → length (writeQuoted q r) ≡ q .spelling .zeros + length (decimal (length (q .text))) + length (q .text) + length r + 3
+    → length (writeQuoted q r) ≡ length (plusText (q .spelling .plus)) + q .spelling .zeros + length (decimal (length (q .text))) + length (q .text) + length r + 3
 quoted-length q r = number-length (q .spelling) (length (q .text)) (byte ":" ∷ byte "\"" ∷ q .text ++ (byte "\"" ∷ r)) ∙ simp length-append (omega arith)

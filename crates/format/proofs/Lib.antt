@@ -17,6 +17,7 @@ pub mod Rows
 pub mod Ordinals
 pub mod Places
 pub mod NormalForm
+pub mod Pluses
 pub mod OneText
 pub mod NormalTable
 pub mod Words

@@ -1,5 +1,6 @@
 -- Canonical text: it fits where its plan does, means the same, and is no longer. Assumes nothing.
 use mathlib.Core.Path.{_≡_, refl, sym, ap, _∙_}
+use mathlib.Core.Logic.{_↔_}
 use mathlib.Core.List.{List, [], _∷_, _++_, map}
 use Prim.Native.Nat.{ℕ, zero, suc, _+_, _-_, _≤_}
 use native.Mathlib.Omega.{arith}
@@ -13,7 +14,7 @@ use Rattle.format.specs.Syntax.{Literal, Quoted, Key, Scalar, Container,
 use Rattle.format.specs.Syntax.{writeScalar, writeContainer, write, writePairs, print}
 use lib.IntN.{ℤ, pos, negsuc}
 use Rattle.format.specs.Keys.{signed, integer, keyMeaning, hasKey}
-use Rattle.format.specs.Limits.{depthLimit, integerLimit, Terms, unseen}
+use Rattle.format.specs.Limits.{sourceLimit, depthLimit, integerLimit, Terms, unseen}
 use Rattle.format.specs.Fits.{IntFits, KeyFits, ScalarFits, ContainerFits, allowed, Sound, SoundIn, Limited, LimitedIn, Backward, BackwardIn, Shallow}
 use Rattle.format.specs.Fits.{ShallowIn, Valid, Fits}
 use Rattle.format.specs.Answer.{ok}
@@ -131,30 +132,36 @@ mutual
 pub canonical-shorter : (v : Value) → length (print (canonical v)) ≤ length (print v)
 canonical-shorter v = write-shorter v [] [] (omega arith)
 
--- ---- it fits
-int-fits : (x : Literal) → IntFits x → IntFits (shortestInt x)
-int-fits x h = go (x .sign) (x .magnitude) h
+-- ---- it fits where its plan does, and its plan where it does, lengths aside
+same : {A : Type 0} → A ↔ A
+same = (λ x. x, λ x. x)
+
+both : {A B C D : Type 0} → A ↔ B → C ↔ D → (A × C) ↔ (B × D)
+both f g = (λ x. (f .0 (x .0), g .0 (x .1)), λ y. (f .1 (y .0), g .1 (y .1)))
+
+int-fits : (x : Literal) → IntFits x ↔ IntFits (shortestInt x)
+int-fits x = go (x .sign) (x .magnitude)
   where
-    go : (s : Sign) (n : ℕ) → n ≤ integerLimit s → n ≤ integerLimit (shortestSign s n)
-    go unsigned n f = f
-    go plus n f = f
-    go minus zero f = omega arith
-    go minus (suc n) f = f
+    go : (s : Sign) (n : ℕ) → (n ≤ integerLimit s) ↔ (n ≤ integerLimit (shortestSign s n))
+    go unsigned n = same
+    go plus n = same
+    go minus zero = (λ f. omega arith, λ f. omega arith)
+    go minus (suc n) = same
 
-key-fits : (k : Key) → KeyFits k → KeyFits (canonicalKey k)
-key-fits (intKey x) f = int-fits x f
-key-fits (stringKey q) f = f
+key-fits : (k : Key) → KeyFits k ↔ KeyFits (canonicalKey k)
+key-fits (intKey x) = int-fits x
+key-fits (stringKey q) = same
 
-scalar-fits : (x : Scalar) → ScalarFits x → ScalarFits (canonicalScalar x)
-scalar-fits null f = f
-scalar-fits (bool b) f = f
-scalar-fits (int x) f = int-fits x f
-scalar-fits (float t) f = f
-scalar-fits (string q) f = f
+scalar-fits : (x : Scalar) → ScalarFits x ↔ ScalarFits (canonicalScalar x)
+scalar-fits null = same
+scalar-fits (bool b) = same
+scalar-fits (int x) = int-fits x
+scalar-fits (float t) = same
+scalar-fits (string q) = same
 
-container-fits : (c : Container) → ContainerFits c → ContainerFits (mapContainer shortestQuoted c)
-container-fits array f = f
-container-fits (object q) f = f
+container-fits : (c : Container) → ContainerFits c ↔ ContainerFits (mapContainer shortestQuoted c)
+container-fits array = same
+container-fits (object q) = same
 
 allowed-same : (c : Container) (k : Key) → allowed (mapContainer shortestQuoted c) (canonicalKey k) ≡ allowed c k
 allowed-same array k = refl
@@ -168,28 +175,33 @@ has-same k (j ∷ js) = rw (key-same k, key-same j, has-same k js)
 mutual
   unfolding canonical
 
-  sound-canonical : (v : Value) → Sound v → Sound (canonical v)
-  sound-canonical (leaf x) s = scalar-fits x s
-  sound-canonical (ref r) s = tt
-  sound-canonical (branch h ps) s = (container-fits (h .container) (s .0), soundIn-canonical (h .container) [] ps (s .1))
+  sound-canonical : (v : Value) → Sound v ↔ Sound (canonical v)
+  sound-canonical (leaf x) = scalar-fits x
+  sound-canonical (ref r) = same
+  sound-canonical (branch h ps) = both (container-fits (h .container)) (soundIn-canonical (h .container) [] ps)
 
-  soundIn-canonical : (c : Container) (js : List Key) (ps : Values) → SoundIn c js ps
-      → SoundIn (mapContainer shortestQuoted c) (map canonicalKey js) (canonicalPairs ps)
-  soundIn-canonical c js none s = tt
-  soundIn-canonical c js (pair k v ps) s =
-      (key-fits k (s .0), rw (allowed-same c k) (s .1), rw (has-same k js) (s .2), sound-canonical v (s .3), soundIn-canonical c (k ∷ js) ps (s .4))
+  soundIn-canonical : (c : Container) (js : List Key) (ps : Values)
+      → SoundIn c js ps ↔ SoundIn (mapContainer shortestQuoted c) (map canonicalKey js) (canonicalPairs ps)
+  soundIn-canonical c js none = same
+  soundIn-canonical c js (pair k v ps) =
+      let f = key-fits k in
+      let x = sound-canonical v in
+      let rest = soundIn-canonical c (k ∷ js) ps in (
+        λ s. (f .0 (s .0), rw (allowed-same c k) (s .1), rw (has-same k js) (s .2), x .0 (s .3), rest .0 (s .4)),
+        λ s. (f .1 (s .0), rw (allowed-same c k) at (s .1), rw (has-same k js) at (s .2), x .1 (s .3), rest .1 (s .4)),
+      )
 
 mutual
   unfolding canonical
 
-  limited-canonical : (v : Value) → Limited v → Limited (canonical v)
-  limited-canonical (leaf x) s = tt
-  limited-canonical (ref r) s = s
-  limited-canonical (branch h ps) s = (rw (count-canonical ps) (s .0), limitedIn-canonical ps (s .1))
+  limited-canonical : (v : Value) → Limited v ↔ Limited (canonical v)
+  limited-canonical (leaf x) = same
+  limited-canonical (ref r) = same
+  limited-canonical (branch h ps) = rw (count-canonical ps) (both same (limitedIn-canonical ps))
 
-  limitedIn-canonical : (ps : Values) → LimitedIn ps → LimitedIn (canonicalPairs ps)
-  limitedIn-canonical none s = tt
-  limitedIn-canonical (pair k v ps) s = (limited-canonical v (s .0), limitedIn-canonical ps (s .1))
+  limitedIn-canonical : (ps : Values) → LimitedIn ps ↔ LimitedIn (canonicalPairs ps)
+  limitedIn-canonical none = same
+  limitedIn-canonical (pair k v ps) = both (limited-canonical v) (limitedIn-canonical ps)
 
 pub ordinals-canonical : (v : Value) → ordinals own (canonical v) ≡ ordinals own v
 unfolding canonical
@@ -198,26 +210,26 @@ ordinals-canonical v = ordinals-map canonicalKey canonicalScalar canonicalHead c
 mutual
   unfolding canonical
 
-  backward-canonical : (v : Value) (n : ℕ) → Backward n v → Backward n (canonical v)
-  backward-canonical (leaf x) n b = tt
-  backward-canonical (ref r) n b = b
-  backward-canonical (branch h ps) n b = backwardIn-canonical ps (suc n) b
+  backward-canonical : (v : Value) (n : ℕ) → Backward n v ↔ Backward n (canonical v)
+  backward-canonical (leaf x) n = same
+  backward-canonical (ref r) n = same
+  backward-canonical (branch h ps) n = backwardIn-canonical ps (suc n)
 
-  backwardIn-canonical : (ps : Values) (n : ℕ) → BackwardIn n ps → BackwardIn n (canonicalPairs ps)
-  backwardIn-canonical none n b = tt
-  backwardIn-canonical (pair k v ps) n b = (backward-canonical v n (b .0), rw (ordinals-canonical v) (backwardIn-canonical ps (n + ordinals own v) (b .1)))
+  backwardIn-canonical : (ps : Values) (n : ℕ) → BackwardIn n ps ↔ BackwardIn n (canonicalPairs ps)
+  backwardIn-canonical none n = same
+  backwardIn-canonical (pair k v ps) n = rw (ordinals-canonical v) (both (backward-canonical v n) (backwardIn-canonical ps (n + ordinals own v)))
 
 mutual
   unfolding canonical
 
-  shallow-canonical : (v : Value) (d : ℕ) → Shallow d v → Shallow d (canonical v)
-  shallow-canonical (leaf x) d s = s
-  shallow-canonical (ref r) d s = s
-  shallow-canonical (branch h ps) d s = (s .0, shallowIn-canonical ps (d - 1) (s .1))
+  shallow-canonical : (v : Value) (d : ℕ) → Shallow d v ↔ Shallow d (canonical v)
+  shallow-canonical (leaf x) d = same
+  shallow-canonical (ref r) d = same
+  shallow-canonical (branch h ps) d = both same (shallowIn-canonical ps (d - 1))
 
-  shallowIn-canonical : (ps : Values) (d : ℕ) → ShallowIn d ps → ShallowIn d (canonicalPairs ps)
-  shallowIn-canonical none d s = tt
-  shallowIn-canonical (pair k v ps) d s = (shallow-canonical v d (s .0), shallowIn-canonical ps d (s .1))
+  shallowIn-canonical : (ps : Values) (d : ℕ) → ShallowIn d ps ↔ ShallowIn d (canonicalPairs ps)
+  shallowIn-canonical none d = same
+  shallowIn-canonical (pair k v ps) d = both (shallow-canonical v d) (shallowIn-canonical ps d)
 
 pub nodes-canonical : (v : Value) → nodes (canonical v) ≡ nodes v
 unfolding canonical
@@ -229,11 +241,21 @@ canonical-valid v f =
     let shorter = canonical-shorter v in
     record {
       short = omega (arith, f .short);
-      shallow = shallow-canonical v depthLimit (f .shallow);
-      backward = backward-canonical v unseen (f .backward);
-      sound = sound-canonical v (f .sound);
-      limited = limited-canonical v (f .limited);
+      shallow = shallow-canonical v depthLimit .0 (f .shallow);
+      backward = backward-canonical v unseen .0 (f .backward);
+      sound = sound-canonical v .0 (f .sound);
+      limited = limited-canonical v .0 (f .limited);
     }
+
+-- and so does every plan that is spelled otherwise, if it is short enough
+pub spelled-valid : (v : Value) → Valid (canonical v) → length (print v) ≤ sourceLimit → Valid v
+spelled-valid v f h = record {
+  short = h;
+  shallow = shallow-canonical v depthLimit .1 (f .shallow);
+  backward = backward-canonical v unseen .1 (f .backward);
+  sound = sound-canonical v .1 (f .sound);
+  limited = limited-canonical v .1 (f .limited);
+}
 
 pub canonical-fits : (terms : Terms) (v : Value) → Fits terms v → Fits terms (canonical v)
 canonical-fits terms v f = record { valid = canonical-valid v (f .valid); small = omega (arith, nodes-canonical v, f .small) }

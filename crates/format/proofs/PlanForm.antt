@@ -13,7 +13,7 @@ use Rattle.format.specs.Kind.{Kind, tag}
 use Rattle.format.specs.Syntax.{Scalar}
 use Rattle.format.specs.Limits.{numberLimit, integerLimit, signOf, isFloat}
 use Rattle.format.specs.Answer.{Answer, ok, refused, _>>=_, require}
-use Rattle.format.specs.Read.{until, digits, number, boolText, intText, floatText, quotedText, scalarText, countText, headText, namedText}
+use Rattle.format.specs.Read.{until, digits, plusOf, number, boolText, intText, floatText, quotedText, scalarText, countText, headText, namedText}
 use Rattle.format.specs.Read.{keyText, planForm}
 use Rattle.format.proofs.Forms.{Tagged, AtTag, found, unfit, Steady, expected}
 use Rattle.format.proofs.Texts.{head-ok}
@@ -59,7 +59,7 @@ module _ (l m : ℕ) where
 
   number-steady : (s : List ℕ) → AtTag l m (number l s) (number m s)
   unfolding number
-  number-steady s = follow _ _ _ _ (digits-steady numberLimit s) (λ a. done _)
+  number-steady s = follow _ _ _ _ (digits-steady numberLimit (plusOf s .1)) (λ a. done _)
 
   bool-steady : (s : List ℕ) → AtTag l m (boolText l s) (boolText m s)
   unfolding boolText

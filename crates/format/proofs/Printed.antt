@@ -1,7 +1,7 @@
 -- Reading what was printed gives back the syntax that was printed. Assumes nothing.
 use mathlib.Core.Path.{_≡_, refl}
 use mathlib.Core.List.{List, [], _∷_, _++_}
-use mathlib.Core.Bool.{true, false, not}
+use mathlib.Core.Bool.{Bool, true, false, not}
 use Prim.Native.Nat.{ℕ, suc, _-_, _≤_, _<_}
 use native.Mathlib.Omega.{arith}
 use lib.Dec.{T, eqb, eqb-refl}
@@ -16,13 +16,13 @@ use Rattle.format.specs.Kind.{Kind}
 use Rattle.format.specs.Tree.{leaf, ref, branch, none, pair, count}
 use Rattle.format.specs.Syntax.{intKey, stringKey, null, bool, int, float, string, array, object, Spelling, Sign, unsigned, plus, minus, Literal, Quoted}
 use Rattle.format.specs.Syntax.{Key, Scalar, Container, Value, Values, writeNumber, writeSign, writeQuoted, writeKey, writeScalar, writeContainer, write}
-use Rattle.format.specs.Syntax.{writePairs, print}
+use Rattle.format.specs.Syntax.{plusText, writePairs, print}
 use Rattle.format.specs.Keys.{hasKey}
 use Rattle.format.specs.Limits.{numberLimit, integerLimit, Terms, signOf, isFloat, Seen}
 use Rattle.format.specs.Fits.{IntFits, QuotedFits, KeyFits, ScalarFits, ContainerFits, allowed, Sound, SoundIn, Limited, LimitedIn, Fits}
 use Rattle.format.specs.Answer.{ok}
 use Rattle.format.specs.Read.{digits, number, expect, intText, quotedText, boolText, floatText, scalarText, countText, headText, namedText, keyText}
-use Rattle.format.specs.Read.{planForm, setting, isArray, readKey, readValue, read}
+use Rattle.format.specs.Read.{plusOf, planForm, setting, isArray, readKey, readValue, read}
 use Rattle.format.proofs.Floats.{float-semicolon, until-semicolon}
 use Rattle.format.proofs.Forms.{IsScalar, WritesScalar, WritesKey, WritesHead, Writing, WritingIn, Fresh, FreshIn, key-accepted, value-accepted, fits-accepted}
 use Rattle.format.proofs.PlanForm.{plan-tagged}
@@ -42,10 +42,18 @@ digits-printed l top z n c r h e =
       zeros,
     )
 
+plus-digits : (ds r : List ℕ) → 0 < length ds → T (areDigits ds) → plusOf (ds ++ r) ≡ (false, ds ++ r)
+plus-digits [] r h t = absurd (omega arith)
+plus-digits (d ∷ ds) r h t = let b : 48 ≤ d = digit-low d (and-left (isDigit d) (areDigits ds) t) in rw (ne-eqb 43 d (λ e. omega arith), plusOf)
+
+plus-printed : (p : Bool) (z n : ℕ) (r : List ℕ) → plusOf ((plusText p ++ spelled z n) ++ r) ≡ (p, spelled z n ++ r)
+plus-printed true z n r = refl
+plus-printed false z n r = plus-digits (spelled z n) r (spelled-some z n) (spelled-digits z n)
+
 pub number-printed : (l : ℕ) (w : Spelling) (n c : ℕ) (r : List ℕ) → n ≤ numberLimit → isDigit c ≡ false
     → number l (writeNumber w n (c ∷ r)) ≡ ok ((w, n), c ∷ r)
 unfolding number
-number-printed l w n c r h e = rw (digits-printed l numberLimit (w .zeros) n c r h e)
+number-printed l w n c r h e = rw (plus-printed (w .plus) (w .zeros) n (c ∷ r), digits-printed l numberLimit (w .zeros) n c r h e)
 
 sign-digits : (ds r : List ℕ) → 0 < length ds → T (areDigits ds) → signOf (ds ++ r) ≡ (unsigned, ds ++ r)
 sign-digits [] r h t = absurd (omega arith)

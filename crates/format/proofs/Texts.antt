@@ -1,7 +1,7 @@
 -- A text that reading accepts is the print of what was read, and in range. Assumes nothing.
 use mathlib.Core.Path.{_≡_, refl, sym, ap, ap₂, _∙_, subst}
 use mathlib.Core.Logic.{⊎-elim}
-use mathlib.Core.List.{List, [], _∷_, _++_, List·Memᴰ, List·Memᴰ·head, List·Memᴰ·tail, List·Memᴰ·cases-cons, List·Memᴰ·eq-of-singleton}
+use mathlib.Core.List.{List, [], _∷_, _++_, append-assoc, List·Memᴰ, List·Memᴰ·head, List·Memᴰ·tail, List·Memᴰ·cases-cons, List·Memᴰ·eq-of-singleton}
 use mathlib.Core.Bool.{true, false, Bool, _||_}
 use Prim.Native.Nat.{ℕ, _-_, _≤_, _<_}
 use native.Mathlib.Omega.{arith}
@@ -14,12 +14,12 @@ use Rattle.decimal.proofs.Numerals.{digits-are, digits-split, spelling, spelled
 use Rattle.format.specs.Bytes.{byte, bytes, sameBytes}
 use Rattle.format.specs.Kind.{Kind, tag, keyKinds}
 use Rattle.format.specs.Syntax.{intKey, stringKey, null, bool, int, float, string, array, object, Spelling, Sign, Literal, Quoted, Key, Scalar, Container}
-use Rattle.format.specs.Syntax.{writeNumber, writeSign, writeQuoted, writeInt, writeKey, bit, writeScalar, writeContainer}
+use Rattle.format.specs.Syntax.{plusText, writeNumber, writeSign, writeQuoted, writeInt, writeKey, bit, writeScalar, writeContainer}
 use Rattle.format.specs.Limits.{numberLimit, integerLimit, signOf, isFloat}
 use Rattle.format.specs.Fits.{IntFits, QuotedFits, KeyFits, ScalarFits, ContainerFits, allowed}
 use Rattle.format.specs.Answer.{ok, require}
 use Rattle.format.specs.Read.{kindOf, tagOf, expect, digits, number, intText, quotedText, boolText, until, floatText, scalarText, countText, headText}
-use Rattle.format.specs.Read.{namedText, keyText, isArray}
+use Rattle.format.specs.Read.{plusOf, namedText, keyText, isArray}
 use Rattle.format.proofs.Answers.{ok-same, not-both, bind-ok, require-ok}
 use Rattle.format.proofs.Floats.{sign-split, until-split}
 use Rattle.format.proofs.Forms.{containerKind}
@@ -86,6 +86,15 @@ digits-ok l top s q e =
       fits = leb→le (value (digitsOf s)) top (require-ok (leb (value (digitsOf s)) top) 5 l (b .0) (b .1));
     })
 
+-- the plus, if there is one
+plus-split : (s : List ℕ) → s ≡ plusText (plusOf s .0) ++ plusOf s .1
+plus-split [] = refl
+plus-split (b ∷ s) = go (test (eqb (byte "+") b))
+  where
+    go : Test (eqb (byte "+") b) → b ∷ s ≡ plusText (plusOf (b ∷ s) .0) ++ plusOf (b ∷ s) .1
+    go (passed t) = rw (t, plusOf) (ap (λ (x : ℕ). x ∷ s) (sym (eqb→eq (byte "+") b (T-of t))))
+    go (failed t) = rw (t, plusOf)
+
 pub record GotNumber (s : List ℕ) (q : (Spelling × ℕ) × List ℕ) : Type 0 where
   pub text : s ≡ writeNumber (q .0 .0) (q .0 .1) (q .1)
   pub fits : q .0 .1 ≤ numberLimit
@@ -93,9 +102,14 @@ pub record GotNumber (s : List ℕ) (q : (Spelling × ℕ) × List ℕ) : Type 0
 pub number-ok : (l : ℕ) (s : List ℕ) (q : (Spelling × ℕ) × List ℕ) → number l s ≡ ok q → GotNumber s q
 unfolding number
 number-ok l s q e =
-    let a = bind-ok (digits l numberLimit s) _ q e in
-    let d = digits-ok l numberLimit s (a .0) (a .1) in
-    subst (GotNumber s) (ok-same (a .2)) (record { text = d .text; fits = d .fits })
+    let p = plusOf s in
+    let a = bind-ok (digits l numberLimit (p .1)) _ q e in
+    let d = digits-ok l numberLimit (p .1) (a .0) (a .1) in
+    subst (GotNumber s) (ok-same (a .2)) (record {
+      text = plus-split s ∙ ap (λ (x : List ℕ). plusText (p .0) ++ x) (d .text)
+          ∙ sym (append-assoc (plusText (p .0)) (spelled (a .0 .0 .0) (a .0 .0 .1)) (a .0 .1));
+      fits = d .fits;
+    })
 
 pub record GotInt (s : List ℕ) (q : Literal × List ℕ) : Type 0 where
   pub text : tag Kind.int ∷ s ≡ writeInt (q .0) (q .1)

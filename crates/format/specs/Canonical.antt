@@ -1,14 +1,15 @@
 -- "Canonical text": every integer and number in shortest decimal form.
 use mathlib.Core.List.{List}
+use mathlib.Core.Bool.{false}
 use Prim.Native.Nat.{ℕ, zero, suc}
 use lib.IntN.{ℤ, pos, negsuc}
 use Rattle.format.specs.Tree.{mapTree}
 use Rattle.format.specs.Syntax.{Spelling, Sign, unsigned, plus, minus, Literal, Quoted, Key, Scalar, Head, Reference, Value}
 use Rattle.format.specs.Syntax.{mapKey, mapScalar, mapContainer}
 
--- "no leading zero"
+-- "no leading zero", and of the plus "Canonical text never has it." (paper 02, L1)
 abbrev pub shortest : Spelling
-shortest = record { zeros = 0 }
+shortest = record { plus = false; zeros = 0 }
 
 -- "no `+` … `0` for zero and never `-0`"
 abbrev pub shortestSign : Sign → (magnitude : ℕ) → Sign

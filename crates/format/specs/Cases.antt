@@ -176,6 +176,26 @@ insertions =
     ∷ within 5 (bytes "a:1:{i:0;N;}" ⇒ insertion 0 1 (bytes "s:1:\"0\";") (bytes "N;") (ok (bytes "a:2:{i:0;N;s:1:\"0\";N;}")))
     ∷ []
 
+-- paper 02, L1: "Plans from an old tape have `s:+5:"basin";`."
+abbrev pub pluses : List Case
+pluses =
+    (bytes "s:+5:\"basin\";" ⇒ table (115 ∷ 1 ∷ 6 ∷ 5 ∷ 0 ∷ 1 ∷ []))
+    ∷ (bytes "s:+5:\"basin\";" ⇒ canonicalText (bytes "s:5:\"basin\";"))
+    ∷ (bytes "s:-5:\"basin\";" ⇒ refusal 2 0)
+    ∷ (bytes "s:+:\"\";" ⇒ refusal 2 0)
+    ∷ (bytes "s:++1:\"a\";" ⇒ refusal 2 0)
+    ∷ (bytes "s:+-1:\"a\";" ⇒ refusal 2 0)
+    ∷ (bytes "a:+65537:{}" ⇒ refusal 5 0)
+    ∷ (bytes "b:+1;" ⇒ refusal 2 0)
+    ∷ (bytes "i:++5;" ⇒ refusal 2 0)
+    ∷ (bytes "O:+1:\"X\":+1:{s:+1:\"k\";r:+1;}"
+    ⇒ table (79 ∷ 1 ∷ 6 ∷ 1 ∷ 1 ∷ 3 ∷ 115 ∷ 0 ∷ 19 ∷ 1 ∷ 0 ∷ 2 ∷ 114 ∷ 2 ∷ 1 ∷ 0 ∷ 0 ∷ 3 ∷ []))
+    ∷ (bytes "O:+1:\"X\":+1:{s:+1:\"k\";r:+1;}" ⇒ canonicalText (bytes "O:1:\"X\":1:{s:1:\"k\";r:1;}"))
+    ∷ (bytes "a:+10:{i:0;N;i:1;N;i:2;N;i:3;N;i:4;N;i:5;N;i:6;N;i:7;N;i:8;R:+01;i:9;R:+9;}"
+    ⇒ insertion 0 0 (bytes "s:+1:\"k\";") (bytes "s:+2:\"ab\";")
+    (ok (bytes "a:11:{s:+1:\"k\";s:+2:\"ab\";i:0;N;i:1;N;i:2;N;i:3;N;i:4;N;i:5;N;i:6;N;i:7;N;i:8;R:+01;i:9;R:10;}")))
+    ∷ []
+
 -- arrays, so many deep, around a text
 abbrev pub deep : ℕ → (inside : List ℕ) → List ℕ
 deep zero s = s

@@ -9,7 +9,7 @@ use Rattle.format.specs.Bytes.{byte, bytes, isEmpty, sameBytes}
 use Rattle.format.specs.Tree.{ordinals}
 use Rattle.format.specs.Syntax.{Sign, unsigned, plus, minus, Value, own}
 
--- "*Number* below means digits without sign, of value at most 65,536."
+-- "*Number* below means digits without sign, of value at most 65,536.", and "may have one leading `+`" (paper 02, L1), which changes no value
 abbrev pub numberLimit : ℕ
 numberLimit = 65536
 

@@ -39,11 +39,16 @@ digits l top s = do
   _ ← require (leb (value (digitsOf s)) top) 5 l
   ok ((length (digitsOf s) - length (decimal (value (digitsOf s))), value (digitsOf s)), afterDigits s)
 
+-- "one leading `+`" (paper 02, L1): whether it stands in front, and what follows
+abbrev pub plusOf : List ℕ → Bool × List ℕ
+plusOf [] = (false, [])
+plusOf (b ∷ s) = elim (eqb (byte "+") b) [ true ↦ (true, s) | false ↦ (false, b ∷ s) ]
+
 -- a *number* of the grammar
 unfoldable pub number : Reader (Spelling × ℕ)
 number l s = do
-  ((z, n), s₁) ← digits l numberLimit s
-  ok ((record { zeros = z }, n), s₁)
+  ((z, n), s₁) ← digits l numberLimit (plusOf s .1)
+  ok ((record { plus = plusOf s .0; zeros = z }, n), s₁)
 
 -- b: "`b:0;` or `b:1;`"
 unfoldable pub boolText : Reader Bool

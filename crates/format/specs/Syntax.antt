@@ -41,8 +41,9 @@ abbrev pub mapContainer : {S S′ : Type 0} → (S → S′) → ContainerOf S �
 mapContainer g array = array
 mapContainer g (object t) = object (g t)
 
--- How a *number* is spelled: the zeros before its shortest digits. "Leading zeros are allowed."
+-- How a *number* is spelled: "one leading `+`" or none (paper 02, L1), and the zeros before its shortest digits. "Leading zeros are allowed."
 pub record Spelling : Type 0 where
+  pub plus : Bool
   pub zeros : ℕ
 
 pub data Sign : Type 0 where
@@ -97,9 +98,17 @@ refKind variableRef = Kind.variableReference
 abbrev pub own : Reference → Bool
 own r = hasOrdinal (tag (refKind (r .kind)))
 
+-- a *number*: "each *number* in 01's grammar may have one leading `+`" (paper 02, L1)
+abbrev pub plusText : Bool → List ℕ
+plusText true = byte "+" ∷ []
+plusText false = []
+
+abbrev pub numberText : Spelling → ℕ → List ℕ
+numberText w n = plusText (w .plus) ++ spelled (w .zeros) n
+
 -- The bytes of each part, put before the bytes `r` that follow it.
 abbrev pub writeNumber : Spelling → ℕ → List ℕ → List ℕ
-writeNumber w n r = spelled (w .zeros) n ++ r
+writeNumber w n r = numberText w n ++ r
 
 abbrev pub writeSign : Sign → List ℕ → List ℕ
 writeSign unsigned r = r

@@ -51,16 +51,26 @@ no-zeros (suc z) n r (fronts.digit h) = absurd (omega (arith, h))
 no-zeros (suc z) n r (fronts.alone h) = absurd (omega (arith, h, spelled-first z n r))
 no-zeros (suc z) n r (fronts.minus h i) = absurd (omega (arith, h))
 
+no-plus : (z n : ℕ) (r : List ℕ) → ShortestFront (byte "+") (getD (spelled z n ++ r) 0 0) → ⊥
+no-plus z n r (fronts.digit h) = omega (arith, h)
+no-plus z n r (fronts.alone h) = omega (arith, h, spelled-first z n r)
+no-plus z n r (fronts.minus h i) = omega (arith, h)
+
 pub shortest-number : (w : Spelling) (n : ℕ) (r : List ℕ) → ShortestFront (getD (writeNumber w n r) 0 0) (getD (writeNumber w n r) 1 0) → shortest ≡ w
-shortest-number w n r f = ap (λ (z : ℕ). record { zeros = z }) (sym (no-zeros (w .zeros) n r f))
+shortest-number w n r f = go (w .plus) f
+  where
+    so : Bool → Spelling
+    so p = record { plus = p; zeros = w .zeros }
+
+    go : (p : Bool) → ShortestFront (getD (writeNumber (so p) n r) 0 0) (getD (writeNumber (so p) n r) 1 0) → shortest ≡ so p
+    go true f = absurd (no-plus (w .zeros) n r f)
+    go false f = ap (λ (z : ℕ). record { plus = false; zeros = z }) (sym (no-zeros (w .zeros) n r f))
 
 -- AND AN INTEGER
 shortest-integer : (g : Sign) (z n : ℕ) (r : List ℕ) → ShortestFront (getD (writeSign g (spelled z n ++ r)) 0 0) (getD (writeSign g (spelled z n ++ r)) 1 0)
     → (shortestSign g n ≡ g) × (z ≡ 0)
 shortest-integer unsigned z n r f = (refl, no-zeros z n r f)
-shortest-integer plus z n r (fronts.digit h) = absurd (omega (arith, h))
-shortest-integer plus z n r (fronts.alone h) = absurd (omega (arith, h, spelled-first z n r))
-shortest-integer plus z n r (fronts.minus h i) = absurd (omega (arith, h))
+shortest-integer plus z n r f = absurd (no-plus z n r f)
 shortest-integer minus z n r (fronts.digit h) = absurd (omega (arith, h))
 shortest-integer minus z n r (fronts.alone h) = absurd (omega (arith, h, spelled-first z n r))
 shortest-integer minus z n r (fronts.minus h i) = let p = no-zero z n r i in (signed n (p .1), p .0)

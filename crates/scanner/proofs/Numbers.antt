@@ -19,7 +19,7 @@ use Rattle.format.specs.Syntax.{Sign, unsigned, plus, minus, Literal, Spelling,
 use Rattle.format.specs.Keys.{integer}
 use Rattle.format.specs.Limits.{numberLimit, integerLimit, signOf}
 use Rattle.format.specs.Answer.{Answer, ok, refused, _>>=_}
-use Rattle.format.specs.Read.{expect, digits, number, intText, Reader, countText, namedText}
+use Rattle.format.specs.Read.{expect, digits, plusOf, number, intText, Reader, countText, namedText}
 use Rattle.format.specs.Table.{word}
 use Rattle.format.proofs.Answers.{ok-same, refused-same, not-both, bind-ok, bind-refused}
 use Rattle.format.proofs.Texts.{number-ok}
@@ -286,12 +286,14 @@ module _ (s : List ℕ) (at : ℕ) where
 -- ---- numbers
 
 -- digits that are a number, and how it is spelled
-abbrev spelledSo : ℕ × ℕ → Spelling × ℕ
-spelledSo n = (record { zeros = n .0 }, n .1)
+abbrev spelledSo : Bool → ℕ × ℕ → Spelling × ℕ
+spelledSo p n = (record { plus = p; zeros = n .0 }, n .1)
 
-pub number-is : {s : List ℕ} {at : ℕ} {r : Scan} → Scans (digitsText numberLimit) valueTold s at r → Scans number valueTold s at r
+-- behind its plus, if there is one
+pub number-is : {s : List ℕ} {at from : ℕ} {p : Bool} {r : Scan} → at ≤ from → plusOf (drop at s) ≡ (p, drop from s)
+    → Scans (digitsText numberLimit) valueTold s from r → Scans number valueTold s at r
 unfolding number
-number-is h = scans-map spelledSo (λ l s. refl) (λ n next. refl) h
+number-is {p = p} k e h = scans-part h k (spelledSo p) (λ l. rw (number, e)) (λ n next. refl)
 
 -- a number ends where its text does
 pub number-ends : (s : List ℕ) (at : ℕ) (t : Text) (n : Found number valueTold s at t) → t .next ≡ at + length (writeNumber (n .what .0) (n .what .1) [])

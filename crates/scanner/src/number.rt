@@ -102,10 +102,14 @@ pub(crate) fn int(source: &[u8], at: usize) -> Scan
     magnitude(source, front.from, front.negative, front.top)
 }
 
-// A *number* of the grammar.
+// A *number* of the grammar, which "may have one leading `+`".
 pub(crate) fn number(source: &[u8], at: usize) -> Scan
     ensures { λ r. ⌜ Scans number valueTold (now (source .entry)) at r ⌝ }
 {
+    let plus = byte_is(source, at, b'+');
+    if plus {
+        return digits(source, at + 1, NUMBER_LIMIT);
+    }
     digits(source, at, NUMBER_LIMIT)
 }
 
