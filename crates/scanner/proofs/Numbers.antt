@@ -5,23 +5,23 @@ use mathlib.Core.Path.{_≡_, refl, sym, ap, ap₂, _∙_, subst}
 use mathlib.Core.Logic.{⊎-elim}
 use mathlib.Core.Bool.{Bool, true, false, _&&_}
 use mathlib.Core.List.{List, [], _∷_, _++_}
-use lib.Dec.{eqb, lit<}
+use lib.Dec.{eqb, ltb, lit<, ltb→lt}
 use lib.ListN.{length, drop, length-drop, length-append}
 use borrow.Author.Tests.{ne-eqb, le-leb, lt-leb, lt-ltb, le-ltb}
 use Rattle.decimal.specs.Digits.{isDigit, digitsOf, value, decimal}
 use Rattle.decimal.specs.Complement.{pattern}
 use Rattle.decimal.specs.Promise.{RunAt}
 use Rattle.decimal.specs.declared.Run.{Run}
-use Rattle.decimal.proofs.Decide.{Test, passed, failed, test, T-of, Order, below, above, order}
+use Rattle.decimal.proofs.Decide.{Test, passed, failed, test, T-of}
 use Rattle.decimal.proofs.Numerals.{digit-low}
 use Rattle.format.specs.Bytes.{byte, bytes}
 use Rattle.format.specs.Syntax.{Sign, unsigned, plus, minus, Literal, Spelling, writeNumber}
 use Rattle.format.specs.Keys.{integer}
 use Rattle.format.specs.Limits.{numberLimit, integerLimit, signOf}
-use Rattle.format.specs.Answer.{Answer, ok, refused, _>>=_}
+use Rattle.format.specs.Answer.{Answer, ok, refused, _>>=_, require}
 use Rattle.format.specs.Read.{expect, digits, plusOf, number, intText, Reader, countText, namedText}
 use Rattle.format.specs.Table.{word}
-use Rattle.format.proofs.Answers.{ok-same, refused-same, not-both, bind-ok, bind-refused}
+use Rattle.format.proofs.Answers.{ok-same, refused-same, not-both, bind-ok, bind-refused, require-ok}
 use Rattle.format.proofs.Texts.{number-ok}
 use Rattle.format.proofs.Fronts.{number-front}
 use Rattle.scanner.specs.declared.Text.{Text}
@@ -186,26 +186,32 @@ not-plus b t = ne-eqb 43 b (λ e. omega (arith, digit-low b (T-of t), e))
 pub not-minus : (b : ℕ) → isDigit b ≡ true → eqb 45 b ≡ false
 not-minus b t = ne-eqb 45 b (λ e. omega (arith, digit-low b (T-of t), e))
 
--- what begins with digits has no sign
-pub digits-unsigned : (t : List ℕ) → 0 < length (digitsOf t) → signOf t ≡ (unsigned, t)
-digits-unsigned [] h = absurd (omega (arith, h))
-digits-unsigned (b ∷ t) h = go (test (isDigit b)) h
+-- what begins with digits has no sign, and no plus
+first-digit : (t : List ℕ) → 0 < length (digitsOf t) → (b : ℕ) × (u : List ℕ) × (t ≡ b ∷ u) × (isDigit b ≡ true)
+first-digit [] h = absurd (omega (arith, h))
+first-digit (b ∷ t) h = go (test (isDigit b)) h
   where
-    go : Test (isDigit b) → 0 < length (digitsOf (b ∷ t)) → signOf (b ∷ t) ≡ (unsigned, b ∷ t)
-    go (passed e) h = rw (signOf, not-plus b e, not-minus b e)
+    go : Test (isDigit b) → 0 < length (digitsOf (b ∷ t)) → (c : ℕ) × (u : List ℕ) × (b ∷ t ≡ c ∷ u) × (isDigit c ≡ true)
+    go (passed e) h = (b, t, refl, e)
     go (failed e) h = absurd (omega (arith, rw (e, digitsOf) at h))
+
+pub digits-unsigned : (t : List ℕ) → 0 < length (digitsOf t) → signOf t ≡ (unsigned, t)
+digits-unsigned t h = let d = first-digit t h in rw (d .2, signOf, not-plus (d .0) (d .3), not-minus (d .0) (d .3))
+
+digits-plusless : (t : List ℕ) → 0 < length (digitsOf t) → plusOf t ≡ (false, t)
+digits-plusless t h = let d = first-digit t h in rw (d .2, plusOf, not-plus (d .0) (d .3))
+
+-- digits that are read are there
+read-digits : (l top : ℕ) (t : List ℕ) (q : (ℕ × ℕ) × List ℕ) → digits l top t ≡ ok q → 0 < length (digitsOf t)
+unfolding digits
+read-digits l top t q e =
+    let a = bind-ok (require (ltb 0 (length (digitsOf t))) 2 l) _ q e in
+    ltb→lt 0 (length (digitsOf t)) (require-ok (ltb 0 (length (digitsOf t))) 2 l (a .0) (a .1))
 
 -- what follows a sign begins with digits
 some-digits : (top : ℕ) (t : List ℕ) (q : (ℕ × ℕ) × List ℕ) → signedText top 0 t ≡ ok q → 0 < length (digitsOf t)
-unfolding signedText digits
-some-digits top t q e = go (order 0 (length (digitsOf t)))
-  where
-    none : length (digitsOf t) ≤ 0 → signedText top 0 t ≡ refused 2 0
-    none l = rw (signedText, digits, le-ltb 0 (length (digitsOf t)) l)
-
-    go : Order 0 (length (digitsOf t)) → 0 < length (digitsOf t)
-    go (below l) = l
-    go (above l) = absurd (not-both (sym (none l) ∙ e))
+unfolding signedText
+some-digits top t q e = let a = bind-ok (digits 0 top t) _ q e in read-digits 0 top t (a .0) (a .1)
 
 -- ---- integers
 
@@ -294,6 +300,28 @@ pub number-is : {s : List ℕ} {at from : ℕ} {p : Bool} {r : Scan} → at ≤ 
     → Scans (digitsText numberLimit) valueTold s from r → Scans number valueTold s at r
 unfolding number
 number-is {p = p} k e h = scans-part h k (spelledSo p) (λ l. rw (number, e)) (λ n next. refl)
+
+-- where its digits are looked for
+pub data DigitsFrom (s : List ℕ) (at from : ℕ) : Type 0 where
+  here : from ≡ at → DigitsFrom s at from
+  behind : from ≡ at + 1 → plusOf (drop at s) ≡ (true, drop from s) → DigitsFrom s at from
+
+pub number-behind : {s : List ℕ} {at from : ℕ} {r : Scan} → DigitsFrom s at from → (from ≡ at → ⊥) → Scans (digitsText numberLimit) valueTold s from r
+    → Scans number valueTold s at r
+number-behind (here e) n h = absurd (n e)
+number-behind (behind e p) n h = number-is (omega (arith, e)) p h
+
+pub number-here : {s : List ℕ} {at from : ℕ} {r : Scan} → from ≡ at → plusOf (drop at s) ≡ (false, drop at s)
+    → Scans (digitsText numberLimit) valueTold s from r → Scans number valueTold s at r
+number-here {s} e p h = number-is (omega (arith, e)) (p ∙ ap (λ (k : ℕ). (false, drop k s)) (sym e)) h
+
+-- digits that are found are the number's
+pub number-found : {s : List ℕ} {at from : ℕ} {t : Text} → DigitsFrom s at from → Found (digitsText numberLimit) valueTold s from t
+    → Scans number valueTold s at (Scan.Is t)
+number-found {s} {at} {from} {t} (here e) f =
+    let none = digits-plusless (drop from s) (read-digits 0 numberLimit (drop from s) _ (f .is 0)) in
+    number-here e (subst (λ (k : ℕ). plusOf (drop k s) ≡ (false, drop k s)) e none) (scans-is t f)
+number-found {t = t} (behind e p) f = number-is (omega (arith, e)) p (scans-is t f)
 
 -- a number ends where its text does
 pub number-ends : (s : List ℕ) (at : ℕ) (t : Text) (n : Found number valueTold s at t) → t .next ≡ at + length (writeNumber (n .what .0) (n .what .1) [])

@@ -102,15 +102,26 @@ pub(crate) fn int(source: &[u8], at: usize) -> Scan
     magnitude(source, front.from, front.negative, front.top)
 }
 
-// A *number* of the grammar, which "may have one leading `+`".
+// A *number* of the grammar, which "may have one leading `+`". The plus is looked for only where no digit stands: hardly a number has one, and its digits
+// are scanned in one place, so that LLVM keeps them in line (in_line.rt).
 pub(crate) fn number(source: &[u8], at: usize) -> Scan
     ensures { λ r. ⌜ Scans number valueTold (now (source .entry)) at r ⌝ }
 {
-    let plus = byte_is(source, at, b'+');
-    if plus {
-        return digits(source, at + 1, NUMBER_LIMIT);
+    let mut from = at;
+    loop {
+        let scan = digits(source, from, NUMBER_LIMIT);
+        let Scan::Not(_) = scan else {
+            return scan;
+        };
+        if from != at {
+            return scan;
+        }
+        let plus = byte_is(source, at, b'+');
+        if !plus {
+            return scan;
+        }
+        from = at + 1;
     }
-    digits(source, at, NUMBER_LIMIT)
 }
 
 // A count of pairs and the opening brace, from behind the colon on.
