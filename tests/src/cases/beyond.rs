@@ -16,7 +16,7 @@ pub fn cases() -> Vec<Case> {
         vec![behind_the_plan()],
         copied(),
         carries(),
-        vec![longest_written()],
+        longest_written(),
         unfit_texts(),
         too_long(),
     ]
@@ -107,19 +107,26 @@ fn with_string(length: usize) -> String {
     format!("a:1:{{i:0;s:{length}:\"{}\";}}", "x".repeat(length))
 }
 
-/// A plan of the greatest length.
-fn longest_written() -> Case {
+/// A plan of the greatest length; also with a plus in it, by which it is not shorter.
+fn longest_written() -> Vec<Case> {
     let source = with_string(65_500);
-    let longest = source.replacen("a:1:", "a:2:", 1);
-    let longest = longest.replace(";}", ";i:1;i:12345678;}");
-    inserted(&source, [0, 1], ["i:1;", "i:12345678;"], &longest)
+    let written = |pair: [&str; 2]| {
+        let longest = source.replacen("a:1:", "a:2:", 1);
+        let longest = longest.replace(";}", &format!(";{}}}", pair.concat()));
+        inserted(&source, [0, 1], pair, &longest)
+    };
+    [["i:1;", "i:12345678;"], ["s:+0:\"\";", "i:1234;"]]
+        .map(written)
+        .into()
 }
 
 /// 13, by a text that is neither a key nor a plain value: "No spaces anywhere", nor any other byte.
 fn unfit_texts() -> Vec<Case> {
     let refused = |pair| refused("a:1:{i:0;N;}", [0, 1], pair, 13);
     let unfit = |text| [[text, "N;"], ["i:1;", text]].map(refused);
-    [" i:5;", "i: 5;", "\0:5;"].map(unfit).concat()
+    [" i:5;", "i: 5;", "\0:5;", "s:+ 1:\"a\";", "s: +1:\"a\";"]
+        .map(unfit)
+        .concat()
 }
 
 /// 14: "bytes to write exceed the output's length or 65,536". Key text and value text have no limit
@@ -127,8 +134,10 @@ fn unfit_texts() -> Vec<Case> {
 fn too_long() -> Vec<Case> {
     let long = format!("i:{}1;", "0".repeat(65_536));
     let one_more = ["i:1;", "i:123456789;"];
+    let by_its_plus = ["s:+0:\"\";", "i:12345;"];
     vec![
         refused(&with_string(65_500), [0, 1], one_more, 14),
+        refused(&with_string(65_500), [0, 1], by_its_plus, 14),
         refused(&with_string(65_515), [0, 1], ["i:1;", "N;"], 14),
         refused("a:0:{}", [0, 0], [&long, "N;"], 14),
         refused("a:0:{}", [0, 0], ["i:1;", &long], 14),
