@@ -20,4 +20,5 @@ pub mod oddities;
 pub mod random;
 pub mod shrink;
 pub mod sides;
+pub mod signs;
 pub mod statistics;

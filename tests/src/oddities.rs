@@ -2,60 +2,68 @@
 
 use crate::model::{Numeral, Role};
 
+/// The integers, by name. They alone have a minus sign.
+const INTEGERS: [(Role, &str); 2] = [(Role::Integer, "an integer"), (Role::IntegerKey, "a key")];
+
+/// Every place of a number, by name.
+pub const NUMBERS: [(Role, &str); 7] = [
+    (Role::TextLength, "a length"),
+    (Role::TextKeyLength, "a key's length"),
+    (Role::ClassLength, "a class's length"),
+    (Role::ArrayCount, "an array's count"),
+    (Role::ObjectCount, "an object's count"),
+    (Role::Copy, "an r"),
+    (Role::Alias, "an R"),
+];
+
+/// What is spelled oddly is so in one of these ways.
 #[derive(Clone, Copy, PartialEq, Eq)]
 enum Oddity {
     Plus,
-    MinusZero,
+    PlusAndZeros,
     Zeros,
+    MinusZero,
 }
 
-/// Every odd spelling, by name.
-const ODDITIES: [(&str, Role, Oddity); COUNT] = [
-    ("+ in an integer", Role::Integer, Oddity::Plus),
-    ("-0 as an integer", Role::Integer, Oddity::MinusZero),
-    ("zeros in an integer", Role::Integer, Oddity::Zeros),
-    ("+ in a key", Role::IntegerKey, Oddity::Plus),
-    ("-0 as a key", Role::IntegerKey, Oddity::MinusZero),
-    ("zeros in a key", Role::IntegerKey, Oddity::Zeros),
-    ("zeros in a length", Role::TextLength, Oddity::Zeros),
-    (
-        "zeros in a key's length",
-        Role::TextKeyLength,
-        Oddity::Zeros,
-    ),
-    (
-        "zeros in a class's length",
-        Role::ClassLength,
-        Oddity::Zeros,
-    ),
-    ("zeros in a count", Role::Count, Oddity::Zeros),
-    ("zeros in a reference", Role::Reference, Oddity::Zeros),
+const ODDITIES: [(Oddity, &str); 4] = [
+    (Oddity::Plus, "+ in"),
+    (Oddity::PlusAndZeros, "+ and zeros in"),
+    (Oddity::Zeros, "zeros in"),
+    (Oddity::MinusZero, "-0 as"),
 ];
 
-pub const COUNT: usize = 11;
-
-/// Which of them an accepted plan has, in the order of `names`.
-pub fn of(source: &[u8], numerals: &[Numeral]) -> [bool; COUNT] {
-    ODDITIES.map(|(_, role, oddity)| {
-        let texts = numerals.iter().filter(|numeral| numeral.role == role);
-        texts
-            .map(|numeral| numeral.span.of(source))
-            .any(|text| has(text, oddity))
-    })
+/// Which odd spellings an accepted plan has, in the order of `names`.
+pub fn of(source: &[u8], numerals: &[Numeral]) -> impl Iterator<Item = bool> {
+    let spelled = numerals.iter().filter_map(|numeral| {
+        let oddity = oddity(numeral.span.of(source))?;
+        Some((numeral.role, oddity))
+    });
+    let found: Vec<_> = spelled.collect();
+    all().map(move |((role, _), (oddity, _))| found.contains(&(role, oddity)))
 }
 
-pub fn names() -> [&'static str; COUNT] {
-    ODDITIES.map(|(name, ..)| name)
+pub fn names() -> impl Iterator<Item = String> {
+    all().map(|((_, what), (_, how))| format!("{how} {what}"))
 }
 
-fn has(text: &[u8], oddity: Oddity) -> bool {
+fn all() -> impl Iterator<Item = ((Role, &'static str), (Oddity, &'static str))> {
+    let roles = INTEGERS.into_iter().chain(NUMBERS);
+    let every = roles.flat_map(|role| ODDITIES.map(|oddity| (role, oddity)));
+    every.filter(|((role, _), (oddity, _))| !role.is_number() || *oddity != Oddity::MinusZero)
+}
+
+/// How an integer or number is not in shortest form; none if it is.
+fn oddity(text: &[u8]) -> Option<Oddity> {
     let digits = match text {
         [b'+' | b'-', digits @ ..] => digits,
         digits => digits,
     };
-    match oddity {
-        Oddity::Plus => text.starts_with(b"+"),
-        Oddity::MinusZero => text.starts_with(b"-") && digits.iter().all(|&digit| digit == b'0'),
-        Oddity::Zeros => digits.len() > 1 && digits.starts_with(b"0"),
+    let zeros = digits.len() > 1 && digits.starts_with(b"0");
+    match (text.first(), zeros) {
+        (Some(b'+'), false) => Some(Oddity::Plus),
+        (Some(b'+'), true) => Some(Oddity::PlusAndZeros),
+        (Some(b'-'), _) if digits.iter().all(|&digit| digit == b'0') => Some(Oddity::MinusZero),
+        (_, true) => Some(Oddity::Zeros),
+        _ => None,
     }
 }

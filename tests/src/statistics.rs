@@ -1,24 +1,35 @@
 //! What a run has reached: counted, printed, and judged.
 
 mod calls;
-mod insertions;
 mod plans;
+mod tally;
 
 use crate::call::{Reply, Service};
-use crate::circumstances::Met;
+use crate::circumstances::{self, Met};
 use crate::model::Survey;
 use calls::Calls;
-use insertions::Insertions;
 use plans::Plans;
 use std::fmt;
+use tally::Tally;
 
 /// Counts over many plans and the calls made with them.
-#[derive(Default)]
 pub struct Statistics {
     plans: Plans,
     /// By service, in the order of `Service::ALL`.
     calls: [Calls; Service::ALL.len()],
-    insertions: Insertions,
+    /// By circumstance.
+    insertions: Tally,
+}
+
+impl Default for Statistics {
+    fn default() -> Self {
+        let named = circumstances::names().map(|name| format!("inserting: {name}"));
+        Statistics {
+            plans: Plans::default(),
+            calls: Default::default(),
+            insertions: Tally::new(named),
+        }
+    }
 }
 
 /// One line of the printed table.
@@ -65,7 +76,7 @@ impl Statistics {
 
     /// Counts what one of those calls was like, if it was for inserting.
     pub fn count_insertion(&mut self, met: &Met) {
-        self.insertions.count(met);
+        self.insertions.count(circumstances::of(met));
     }
 
     /// What should have been reached and was not.

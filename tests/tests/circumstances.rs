@@ -78,6 +78,81 @@ fn of_an_insertion_inside() {
     );
 }
 
+/// Every number of the plan has a `+`, and so have the texts put in.
+#[test]
+fn of_an_insertion_with_pluses() {
+    let plan =
+        "O:+1:\"X\":+2:{s:+1:\"x\";a:+1:{i:7;s:+1:\"a\";}s:+1:\"y\";a:+2:{i:0;r:+3;i:1;R:+01;}}";
+    assert_eq!(
+        met((2, 0), [plan, "s:+1:\"7\";", "s:+0:\"\";"], (20, 100)),
+        [
+            "in front of other pairs",
+            "into an array in an object",
+            "count spelled oddly",
+            "count with +",
+            "raised r",
+            "raised the number k",
+            "raised one spelled oddly",
+            "raised one from behind into the array",
+            "kept one spelled oddly behind the place",
+            "kept one behind that names an open container",
+            "kept some and raised others",
+            "raised r with +",
+            "kept R with +",
+            "kept one with + behind the place",
+            "+ in another array's count",
+            "+ in an object's count",
+            "+ in a length",
+            "+ in a key's length",
+            "+ in a class's length",
+            "key of kind s",
+            "key s spelled oddly",
+            "key equal to another but for its kind",
+            "value of kind s",
+            "value s spelled oddly",
+            "key s with +",
+            "value s with +",
+            "table with nodes to spare",
+            "output with bytes to spare",
+        ]
+    );
+}
+
+/// The names with a `+` in them.
+fn met_with_plus(place: (usize, usize), plan: &str) -> Vec<&'static str> {
+    let mut names = met(place, [plan, "i:99;", "N;"], (30, 100));
+    names.retain(|name| name.contains('+'));
+    names
+}
+
+#[test]
+fn of_pluses_told_apart() {
+    assert_eq!(met_with_plus((0, 0), "a:+1:{i:0;a:0:{}}"), ["count with +"]);
+    assert_eq!(
+        met_with_plus((2, 0), "a:+1:{i:0;a:0:{}}"),
+        ["+ in another array's count"]
+    );
+    assert_eq!(
+        met_with_plus((0, 1), "a:1:{i:0;r:+1;}"),
+        ["kept r with +", "kept one with + before the place"]
+    );
+    assert_eq!(
+        met_with_plus((0, 0), "a:2:{i:0;N;i:1;R:+2;}"),
+        ["raised R with +"]
+    );
+    assert!(met_with_plus((0, 0), "a:2:{i:+0;d:+1;i:1;s:2:\"+5\";}").is_empty());
+    let nulls: String = (0..8).map(|key| format!("i:{key};N;")).collect();
+    assert_eq!(
+        met_with_plus((0, 0), &format!("a:+9:{{{nulls}i:8;r:+9;}}")),
+        [
+            "count with +",
+            "count +9 to 10",
+            "raised r with +",
+            "raised +9 to 10",
+        ]
+    );
+}
+
 /// Five nodes; `i:9;` and `N;` make it 26 bytes long.
 const PLAN: &str = "a:2:{i:5;N;i:6;R:2;}";
 const FIT: [&str; 3] = [PLAN, "i:9;", "N;"];
@@ -115,6 +190,25 @@ fn of_texts_and_keys_refused() {
     assert_eq!(
         met((0, 0), [PLAN, "i:+5;", "N;"], (6, 99)),
         ["9 for a key spelled otherwise", "9 where 7 holds"]
+    );
+}
+
+#[test]
+fn of_signs_refused() {
+    let keys = [
+        ("s:+:\"\";", "not of its form", "with + and no digit"),
+        ("s:++1:\"a\";", "not of its form", "with + and no digit"),
+        ("s:-1:\"a\";", "not of its form", "with -"),
+        ("s:+65537:\"\";", "out of range", "out of range behind +"),
+    ];
+    for (text, wrong, sign) in keys {
+        let named = |what| [wrong, sign].map(|why| format!("13 for a {what} {why}"));
+        assert_eq!(met((0, 0), [PLAN, text, "N;"], AMPLE), named("key"));
+        assert_eq!(met((0, 0), [PLAN, "i:9;", text], AMPLE), named("value"));
+    }
+    assert_eq!(
+        met((0, 0), ["a:1:{s:1:\"k\";N;}", "s:+1:\"k\";", "N;"], AMPLE),
+        ["9 for a key spelled otherwise", "9 for a key s with +"]
     );
 }
 

@@ -113,7 +113,7 @@ fn of_role<'a>(survey: &'a Survey, roles: &'a [Role]) -> impl Iterator<Item = &'
 fn count_change(survey: &Survey, table: &Table, place: Place) -> Change {
     let earlier = table.rows[..place.array_node].iter();
     let containers = earlier.filter(|row| is_of(row, b"aO")).count();
-    let numeral = of_role(survey, &[Role::Count]).nth(containers);
+    let numeral = of_role(survey, &[Role::ArrayCount, Role::ObjectCount]).nth(containers);
     let span = numeral.expect("the array has a count").span;
     let count = table.rows[place.array_node][4] + 1;
     (span.offset, span.length, count.to_string().into_bytes())
@@ -122,7 +122,7 @@ fn count_change(survey: &Survey, table: &Table, place: Place) -> Change {
 fn reference_changes(survey: &Survey, table: &Table, number: usize) -> Vec<Change> {
     let references = table.rows.iter().filter(|row| is_of(row, b"rR"));
     references
-        .zip(of_role(survey, &[Role::Reference]))
+        .zip(of_role(survey, &[Role::Copy, Role::Alias]))
         .filter(|(row, _)| row[2] >= number as u64)
         .map(|(row, Numeral { span, .. })| {
             let now = (row[2] + 1).to_string().into_bytes();
@@ -167,6 +167,7 @@ fn a_wrong_meaning_is_seen() {
     assert!(judge("a:4:{i:0;d:1.5;i:59;d:2;i:1;d:2.5;i:2;R:4;}").is_none());
     // Spellings have no meaning.
     assert!(judge("a:04:{i:0;d:1.5;i:+59;d:2;i:01;d:2.5;i:2;R:04;}").is_none());
+    assert!(judge("a:+4:{i:0;d:1.5;i:59;d:2;i:1;d:2.5;i:2;R:+4;}").is_none());
     for wrong in [
         texts.source,
         "",

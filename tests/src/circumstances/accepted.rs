@@ -2,7 +2,7 @@
 
 use super::request::{Array, Reference};
 use super::{Circumstance, Met};
-use crate::model::{DEEPEST, LONGEST_PLAN, WORDS};
+use crate::model::{Role, DEEPEST, LONGEST_PLAN, WORDS};
 
 /// Where the pair went.
 pub const PLACES: &[Circumstance] = &[
@@ -41,6 +41,10 @@ pub const PLACES: &[Circumstance] = &[
     }),
     ("count 99 to 100", |met| {
         met.array(|array, _| array.count == 99)
+    }),
+    ("count with +", |met| met.array(|array, _| array.has_plus)),
+    ("count +9 to 10", |met| {
+        met.array(|array, _| array.has_plus && array.count == 9)
     }),
 ];
 
@@ -98,6 +102,44 @@ pub const REFERENCES: &[Circumstance] = &[
     ("kept some and raised others", |met| {
         met.kept(|it| it.is_behind) && met.raised(|_| true)
     }),
+    ("raised r with +", |met| {
+        met.raised(|it| it.has_plus && it.tag == b'r')
+    }),
+    ("raised R with +", |met| {
+        met.raised(|it| it.has_plus && it.tag == b'R')
+    }),
+    ("raised +9 to 10", |met| {
+        met.raised(|it| it.has_plus && it.named == 9)
+    }),
+    ("kept r with +", |met| {
+        met.kept(|it| it.has_plus && it.tag == b'r')
+    }),
+    ("kept R with +", |met| {
+        met.kept(|it| it.has_plus && it.tag == b'R')
+    }),
+    ("kept one with + before the place", |met| {
+        met.kept(|it| it.has_plus && !it.is_behind)
+    }),
+    ("kept one with + behind the place", |met| {
+        met.kept(|it| it.has_plus && it.is_behind)
+    }),
+];
+
+/// Other numbers with a `+`, which keep it.
+pub const OTHER_PLUSES: &[Circumstance] = &[
+    ("+ in another array's count", |met| {
+        met.has_other_plus(Role::ArrayCount)
+    }),
+    ("+ in an object's count", |met| {
+        met.has_other_plus(Role::ObjectCount)
+    }),
+    ("+ in a length", |met| met.has_other_plus(Role::TextLength)),
+    ("+ in a key's length", |met| {
+        met.has_other_plus(Role::TextKeyLength)
+    }),
+    ("+ in a class's length", |met| {
+        met.has_other_plus(Role::ClassLength)
+    }),
 ];
 
 /// What was put in.
@@ -123,6 +165,10 @@ pub const TEXTS: &[Circumstance] = &[
     }),
     ("value s spelled oddly", |met| {
         met.request.value.is_fit_of(b"s") && met.request.value.is_odd()
+    }),
+    ("key s with +", |met| met.request.key.is_string_with_plus()),
+    ("value s with +", |met| {
+        met.request.value.is_string_with_plus()
     }),
 ];
 
@@ -170,5 +216,9 @@ impl Met<'_> {
     /// Whether this holds of a reference that was not.
     fn kept(&self, holds: impl Fn(&Reference) -> bool) -> bool {
         self.request.kept().any(holds)
+    }
+
+    fn has_other_plus(&self, role: Role) -> bool {
+        self.request.other_pluses.contains(&role)
     }
 }

@@ -35,6 +35,7 @@ fn all_accepted() -> impl Iterator<Item = &'static Circumstance> {
     accepted::PLACES
         .iter()
         .chain(accepted::REFERENCES)
+        .chain(accepted::OTHER_PLUSES)
         .chain(accepted::TEXTS)
         .chain(accepted::LENGTHS)
 }

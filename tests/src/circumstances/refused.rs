@@ -80,12 +80,35 @@ pub const ALL: &[Circumstance] = &[
     ("13 for an r or R as value", |met| {
         met.is_13_for_value(|value| value.is_refused(Code::UnknownOrdinal))
     }),
+    ("13 for a key with + and no digit", |met| {
+        met.is_13_for_key(|key| key.is_string_of(b"+"))
+    }),
+    ("13 for a key with -", |met| {
+        met.is_13_for_key(|key| key.text.starts_with(b"s:-"))
+    }),
+    ("13 for a key out of range behind +", |met| {
+        met.is_13_for_key(|key| key.is_refused(Code::OutOfRange) && key.is_string_with_plus())
+    }),
+    ("13 for a value with + and no digit", |met| {
+        met.is_13_for_value(|value| value.is_string_of(b"+"))
+    }),
+    ("13 for a value with -", |met| {
+        met.is_13_for_value(|value| value.text.starts_with(b"s:-"))
+    }),
+    ("13 for a value out of range behind +", |met| {
+        met.is_13_for_value(|value| {
+            value.is_refused(Code::OutOfRange) && value.is_string_with_plus()
+        })
+    }),
     // Keys, depth and room.
     ("9 for a key spelled alike", |met| {
         met.is(9) && met.request.present_alike == Some(true)
     }),
     ("9 for a key spelled otherwise", |met| {
         met.is(9) && met.request.present_alike == Some(false)
+    }),
+    ("9 for a key s with +", |met| {
+        met.is(9) && met.request.key.is_string_with_plus()
     }),
     ("8 for an array at depth 64", |met| {
         met.is(8) && met.request.is_deepest()
@@ -181,6 +204,11 @@ impl Text<'_> {
     fn is_refused(&self, code: Code) -> bool {
         let refusal = self.survey.answer.as_ref().err();
         refusal.is_some_and(|refusal| refusal.code == code)
+    }
+
+    /// Whether it is a string with this for a length.
+    fn is_string_of(&self, length: &[u8]) -> bool {
+        self.text.starts_with(b"s:") && self.numeral() == Some(length)
     }
 
     /// Whether it is a plan of one of these kinds.

@@ -2,7 +2,7 @@
 //! texts alone, and not from the tree.
 
 use crate::call::{Lent, Place};
-use crate::model::{self, is_of, Identity, Refusal, Row, Survey, Table, DEEPEST};
+use crate::model::{self, is_of, Identity, Numeral, Refusal, Role, Row, Survey, Table, DEEPEST};
 
 /// An insertion asked for.
 pub struct Request<'a> {
@@ -14,6 +14,8 @@ pub struct Request<'a> {
     pub array: Option<Array>,
     /// The plan's references, if there is the array and the place in it.
     pub references: Vec<Reference>,
+    /// What numbers with a `+` are for, but those of references and the array's count.
+    pub other_pluses: Vec<Role>,
     pub key: Text<'a>,
     pub value: Text<'a>,
     /// What the key is equal to; none for an unfit one.
@@ -33,6 +35,7 @@ pub struct Array {
     pub count: usize,
     pub depth: usize,
     pub is_count_odd: bool,
+    pub has_plus: bool,
     pub is_in_array: bool,
     pub is_in_object: bool,
     pub holds_array: bool,
@@ -45,6 +48,7 @@ pub struct Reference {
     /// The number of the new value.
     pub new: usize,
     pub is_odd: bool,
+    pub has_plus: bool,
     pub is_behind: bool,
     /// Whether it stands in the array, and whether what it names does.
     pub is_inside: bool,
@@ -82,6 +86,7 @@ impl<'a> Request<'a> {
             table: survey.answer.as_ref().ok(),
             array: None,
             references: Vec::new(),
+            other_pluses: Vec::new(),
             key: Text::new(texts.key, identity.is_some()),
             value: Text::new(texts.value, model::is_value_text(texts.value)),
             identity,
@@ -93,6 +98,7 @@ impl<'a> Request<'a> {
             let numerals = numerals_by_node(table, survey, texts.source);
             request.look_at_array(table, &numerals);
             request.look_at_references(table, &numerals);
+            request.look_at_others(table, survey);
         }
         request
     }
@@ -114,6 +120,7 @@ impl<'a> Request<'a> {
             count: row[4] as usize,
             depth: table.depth_of(node),
             is_count_odd: is_odd(numerals[node]),
+            has_plus: has_plus(numerals[node]),
             is_in_array: around().any(|row| is_of(row, b"a")),
             is_in_object: around().any(|row| is_of(row, b"O")),
             holds_array: table.rows[node + 1..end].iter().any(|row| is_of(row, b"a")),
@@ -150,6 +157,7 @@ impl<'a> Request<'a> {
                     named: named as usize,
                     new,
                     is_odd: is_odd(numerals[node]),
+                    has_plus: has_plus(numerals[node]),
                     is_behind: node >= gap,
                     is_inside: is_inside(node),
                     names_inside: is_inside(target),
@@ -157,6 +165,25 @@ impl<'a> Request<'a> {
                     names_open: table.rows[target][5] as usize > node,
                     names_r: is_of(&table.rows[target], b"r"),
                 });
+            }
+        }
+    }
+
+    fn look_at_others(&mut self, table: &Table, survey: &Survey) {
+        let Some(array) = &self.array else {
+            return;
+        };
+        let earlier = table.rows[..array.node].iter();
+        let arrays_before = earlier.filter(|row| is_of(row, b"a")).count();
+        let mut counts = 0..;
+        let mut is_other = |numeral: &&Numeral| match numeral.role {
+            Role::Copy | Role::Alias => false,
+            Role::ArrayCount => counts.next() != Some(arrays_before),
+            _ => true,
+        };
+        for numeral in survey.numerals.iter().filter(|it| is_other(it)) {
+            if has_plus(numeral.span.of(self.texts.source)) {
+                self.other_pluses.push(numeral.role);
             }
         }
     }
@@ -200,7 +227,13 @@ impl<'a> Text<'a> {
         self.is_fit && self.numeral().is_some_and(is_odd)
     }
 
-    fn numeral(&self) -> Option<&[u8]> {
+    /// Whether it is a string with a `+` before its length, fit or not.
+    pub fn is_string_with_plus(&self) -> bool {
+        self.text.starts_with(b"s:") && self.numeral().is_some_and(has_plus)
+    }
+
+    /// Its integer or number; of one without digits the sign alone.
+    pub fn numeral(&self) -> Option<&[u8]> {
         let first = self.survey.numerals.first();
         first.map(|numeral| numeral.span.of(self.text))
     }
@@ -212,6 +245,10 @@ fn is_odd(numeral: &[u8]) -> bool {
         [b'+', ..] | b"-0" => true,
         [b'-', digits @ ..] | digits => digits.len() > 1 && digits[0] == b'0',
     }
+}
+
+fn has_plus(numeral: &[u8]) -> bool {
+    numeral.starts_with(b"+")
 }
 
 /// The numeral of each node, that of an O's count; empty for a node without one.

@@ -10,11 +10,23 @@ pub enum Role {
     TextLength,
     TextKeyLength,
     ClassLength,
-    Count,
-    Reference,
+    ArrayCount,
+    ObjectCount,
+    /// The ordinal that an `r` names.
+    Copy,
+    /// The ordinal that an `R` names.
+    Alias,
 }
 
-/// An integer, its sign included, or a number.
+impl Role {
+    /// Whether it is for a number, and not for an integer.
+    pub fn is_number(self) -> bool {
+        !matches!(self, Role::Integer | Role::IntegerKey)
+    }
+}
+
+/// An integer or a number, its sign included. Where its digits are missing, the sign alone, if there
+/// is one: the plan is refused there.
 #[derive(Clone, Copy, Debug)]
 pub struct Numeral {
     pub role: Role,

@@ -151,7 +151,11 @@ impl<'a> Parser<'a> {
     /// "6 and 9 come after the closing `;`."
     fn reference(&mut self, tag: u8, named_at_most: usize) -> Result<Kind<'a>, Code> {
         self.scanner.literal(&[tag, b':'])?;
-        let ordinal = self.scanner.number(Role::Reference)?;
+        let role = match tag {
+            b'r' => Role::Copy,
+            _ => Role::Alias,
+        };
+        let ordinal = self.scanner.number(role)?;
         self.scanner.literal(b";")?;
         match tag {
             _ if !(1..=named_at_most).contains(&ordinal) => Err(Code::UnknownOrdinal),
@@ -184,11 +188,13 @@ impl<'a> Parser<'a> {
     fn head(&mut self, tag: u8) -> Result<(Option<Span>, usize), Code> {
         self.scanner.literal(&[tag, b':'])?;
         let mut class = None;
+        let mut role = Role::ArrayCount;
         if tag == b'O' {
             class = Some(self.scanner.quoted(Role::ClassLength)?);
             self.scanner.literal(b":")?;
+            role = Role::ObjectCount;
         }
-        let count = self.scanner.number(Role::Count)?;
+        let count = self.scanner.number(role)?;
         self.scanner.literal(b":{")?;
         Ok((class, count))
     }

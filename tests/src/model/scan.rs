@@ -5,7 +5,7 @@ use super::numeral::{Numeral, Role};
 use super::refusal::Code;
 use super::value::Span;
 
-/// "*Number* below means digits without sign, of value at most 65,536."
+/// "*Number* below means digits [...] of value at most 65,536."
 const LARGEST_NUMBER: u64 = 65_536;
 
 /// A place in the source, moving to the right, and the integers and numbers that it passed.
@@ -54,11 +54,9 @@ impl<'a> Scanner<'a> {
         Ok(())
     }
 
-    /// A number: a count, a length or an ordinal named.
+    /// A number: a count, a length or an ordinal named. It "may have one leading `+`" (paper 02, L1).
     pub fn number(&mut self, role: Role) -> Result<usize, Code> {
-        let start = self.position;
-        let digits = self.digits()?;
-        self.passed(role, start);
+        let (_, digits) = self.signed(b"+", role)?;
         match magnitude(digits) {
             Some(value) if value <= LARGEST_NUMBER => Ok(value as usize),
             _ => Err(Code::OutOfRange),
@@ -67,18 +65,11 @@ impl<'a> Scanner<'a> {
 
     /// An integer of 64 bits with its optional sign.
     pub fn integer(&mut self, role: Role) -> Result<i64, Code> {
-        let start = self.position;
-        let negative = self.rest().first() == Some(&b'-');
-        if negative || self.rest().first() == Some(&b'+') {
-            self.position += 1;
-        }
-        let digits = self.digits()?;
-        self.passed(role, start);
+        let (sign, digits) = self.signed(b"+-", role)?;
         let magnitude = magnitude(digits).ok_or(Code::OutOfRange)?;
-        let value = if negative {
-            -i128::from(magnitude)
-        } else {
-            i128::from(magnitude)
+        let value = match sign {
+            Some(b'-') => -i128::from(magnitude),
+            _ => i128::from(magnitude),
         };
         i64::try_from(value).map_err(|_| Code::OutOfRange)
     }
@@ -103,6 +94,18 @@ impl<'a> Scanner<'a> {
             return Err(Code::Malformed);
         }
         Ok(self.take(length))
+    }
+
+    /// A sign, if one of these stands here, and the digits behind it. Kept as a numeral also where no
+    /// digits follow.
+    fn signed(&mut self, signs: &[u8], role: Role) -> Result<(Option<u8>, &'a [u8]), Code> {
+        let start = self.position;
+        let first = self.rest().first().copied();
+        let sign = first.filter(|byte| signs.contains(byte));
+        self.position += usize::from(sign.is_some());
+        let digits = self.digits();
+        self.passed(role, start);
+        Ok((sign, digits?))
     }
 
     /// "A run of digits is taken whole, then 5 is tested, then the next byte."
