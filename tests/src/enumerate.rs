@@ -70,14 +70,28 @@ const SHORT_TEXTS: &[Endings] = &[
     (b"a:1:{s:6553", b"05678:\";", 3),
     (b"O:6553", b"05678:\";", 3),
     (b"a:1:{i:0;R:6553", b"05678;}", 4),
-    (b"r:", b"01;:", 4),
-    (b"R:", b"01;:", 4),
+    (b"r:", b"01+-;:", 4),
+    (b"R:", b"01+-;:", 4),
     (b"a:", b"01:{}i", 5),
     (b"a:1:{", b"i:01;N}", 6),
     (b"a:2:{i:0;N;", b"is:01;N}-", 5),
     (b"a:2:{i:0;", b"rR:0123;}", 5),
     (b"O:0:\"", b"\":01{}s", 5),
     (b"O:1:\"", b"\":01{}", 5),
+    (b"s:+", b"01+-:\";", 5),
+    (b"b:", b"01+-;", 4),
+    (b"a:+", b"01+-:{}", 4),
+    (b"a:1:{s:+", b"01+-:\";", 4),
+    (b"O:+", b"01+-:\"", 4),
+    (b"O:0:\"\":+", b"01+-:{}", 4),
+    (b"a:2:{i:0;r:", b"012+-;}", 4),
+    (b"a:2:{i:0;R:", b"012+-;}", 4),
+    (b"a:1:{s:+6553", b"05678:\";", 3),
+    (b"a:+6553", b"05678:{}", 3),
+    (b"O:+6553", b"05678:\";", 3),
+    (b"O:0:\"\":+6553", b"05678:{}", 3),
+    (b"a:1:{i:0;r:+6553", b"05678;}", 3),
+    (b"a:1:{i:0;R:+6553", b"05678;}", 3),
 ];
 
 /// Plans whose neighbours are tried: each byte replaced by all others, left out, or the last one.
@@ -95,6 +109,7 @@ const NEIGHBOURED: &[&[u8]] = &[
     b"a:2:{i:0;a:1:{i:0;a:1:{i:0;R:3;}}i:1;O:0:\"\":1:{s:0:\"\";r:2;}}",
     b"a:03:{i:+07;i:-0;s:02:\"-0\";i:-010;i:-0;s:01:\"+\";}",
     b"O:02:\"07\":02:{s:01:\"x\";d:+00.50;s:00:\"\";R:02;}",
+    b"a:+2:{s:+1:\"k\";s:+5:\"basin\";i:0;O:+1:\"X\":+02:{s:1:\"r\";r:+2;s:1:\"R\";R:+03;}}",
 ];
 
 /// Plans that a pair is put into everywhere, and at nodes and places where it cannot be.
@@ -107,6 +122,8 @@ const INSERTED_INTO: &[&[u8]] = &[
     b"a:02:{i:0;a:001:{i:0;a:0:{}}i:1;O:0:\"\":2:{s:0:\"\";R:03;s:1:\"a\";r:04;}}",
     b"a:2:{s:1:\"a\";a:2:{i:0;R:2;i:1;a:1:{i:0;R:3;}}s:1:\"b\";a:2:{i:0;R:4;i:1;r:1;}}",
     b"a:9:{i:0;N;i:1;N;i:2;N;i:3;N;i:4;N;i:5;N;i:6;N;i:7;r:08;i:8;R:9;}",
+    b"a:+9:{i:0;N;i:1;N;i:2;N;i:3;N;i:4;N;i:5;N;i:6;N;i:7;r:+8;i:8;R:+09;}",
+    b"a:+02:{i:0;a:+1:{i:0;a:+0:{}}i:1;O:+1:\"X\":+2:{s:+0:\"\";R:+03;s:1:\"a\";r:+4;}}",
 ];
 
 /// Texts that are put in as keys and as values: all of these endings, and all neighbours of these.
@@ -119,24 +136,31 @@ const SHORT_PAIR_TEXTS: &[Endings] = &[
     (b"i:922337203685477580", b"06789;x", 3),
     (b"i:-922337203685477580", b"06789;x", 3),
     (b"s:6553", b"05678:\";", 3),
+    (b"s:+", b"01+-:\";", 4),
+    (b"s:+6553", b"05678:\";", 3),
 ];
 
 const NEIGHBOURED_PAIR_TEXTS: &[&[u8]] = &[
     b"i:+05;",
     b"i:-9223372036854775808;",
     b"s:02:\"5;\";",
+    b"s:+2:\"5;\";",
     b"s:3:\"\";\"\";",
     b"d:-1.5e+3;",
     b"b:1;",
     b"N;",
 ];
 
-/// Two pairs at every node and place of a plan, and at some more.
+/// Three pairs at every node and place of a plan, and at some more.
 fn everywhere<E>(
     source: &[u8],
     visit: &mut impl FnMut(Lent, Place) -> Result<(), E>,
 ) -> Result<(), E> {
-    let pairs: [[&[u8]; 2]; 2] = [[b"i:+077;", b"N;"], [b"s:03:\"new\";", b"d:1.5;"]];
+    let pairs: [[&[u8]; 2]; 3] = [
+        [b"i:+077;", b"N;"],
+        [b"s:03:\"new\";", b"d:1.5;"],
+        [b"s:+3:\"new\";", b"s:+00:\"\";"],
+    ];
     for array_node in 0..24 {
         for pair_index in 0..12 {
             let place = Place {

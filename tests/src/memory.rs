@@ -146,6 +146,7 @@ fn continuation(text: &[u8]) -> &'static [u8] {
         Some(b'0'..=b'9') => b";}}}}",
         Some(b';' | b'{') => b"}}}}}",
         Some(b':') => b"0;}}}",
+        Some(b'+') => b"0:\"\";",
         Some(b'"') => b";N;}}",
         Some(_) => b"\";};}",
         None => b"i:7;}",

@@ -1,8 +1,13 @@
 //! The generator keeps what its parts promise, so that the plans are what they are counted as.
 
+use tonschnecke_tests::call::Call;
+use tonschnecke_tests::circumstances::{Met, Request};
 use tonschnecke_tests::generate::{self, Insertion};
-use tonschnecke_tests::model;
+use tonschnecke_tests::memory::Memory;
+use tonschnecke_tests::model::{self, Survey, LONGEST_PLAN, WORDS};
 use tonschnecke_tests::random::Random;
+use tonschnecke_tests::sides;
+use tonschnecke_tests::statistics::Statistics;
 
 #[test]
 fn valid_plans_are_accepted() {
@@ -65,4 +70,35 @@ fn most_insertions_are_accepted() {
 fn a_seed_repeats_its_insertions() {
     assert_eq!(insertions(7), insertions(7));
     assert_ne!(insertions(7), insertions(8));
+}
+
+/// Counts an insertion as a run does that lends enough, with the model's answer.
+fn count(statistics: &mut Statistics, source: &[u8], survey: &Survey, insertion: &Insertion) {
+    let (texts, place) = (insertion.texts(source), insertion.place);
+    let to_write = model::bytes_to_write(texts, place);
+    let call = Call::insert(place, (survey.nodes_met + 2) * WORDS, LONGEST_PLAN);
+    statistics.count_insertion(&Met {
+        request: &Request::new(texts, place, survey, to_write),
+        call,
+        reply: sides::model(texts, call, &mut Memory::for_call(call)),
+    });
+}
+
+/// Paper 02, L1: of what a run needs, everything that a plus sign has to do with.
+#[test]
+fn plans_and_insertions_have_plus_signs_everywhere() {
+    let mut random = Random::new(1);
+    let mut statistics = Statistics::default();
+    for _ in 0..60_000 {
+        let plan = generate::plan(&mut random);
+        let survey = model::survey(&plan, usize::MAX);
+        statistics.count_plan(&plan, &survey);
+        if survey.has_array() {
+            let insertion = generate::insertion(&mut random, &plan, &survey);
+            count(&mut statistics, &plan, &survey, &insertion);
+        }
+    }
+    let mut missing = statistics.missing();
+    missing.retain(|line| line.contains('+'));
+    assert!(missing.is_empty(), "{missing:#?}");
 }

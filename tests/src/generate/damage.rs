@@ -72,7 +72,7 @@ fn change_digits(random: &mut Random, plan: &mut Vec<u8>) {
 }
 
 fn respelled(random: &mut Random, digits: &str, value: u128) -> String {
-    match random.below(10) {
+    match random.below(12) {
         0..=1 => (value + 1).to_string(),
         2..=3 => value.saturating_sub(1).to_string(),
         4 => "0".repeat(random.between(1, 30)) + digits,
@@ -87,6 +87,8 @@ fn respelled(random: &mut Random, digits: &str, value: u128) -> String {
             .into(),
         // Equal to the old value after wrapping at some width.
         8 => (value + (1 << random.pick(&[8, 16, 17, 31, 32, 63, 64, 96]))).to_string(),
+        9 => format!("+{digits}"),
+        10 => random.pick(&["+", "++", "+-", "-"]).to_string() + random.pick(&["", digits]),
         _ => digits.repeat(random.between(2, 6)),
     }
 }

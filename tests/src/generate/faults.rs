@@ -31,6 +31,7 @@ const MALFORMED: &[&str] = &[
     "i:+;",
     "i:-;",
     "i:+-1;",
+    "i:++5;",
     "i: 1;",
     "i:1 ;",
     "i:1.0;",
@@ -41,7 +42,6 @@ const MALFORMED: &[&str] = &[
     "s:2:\"a\";",
     "s:0:\"a\";",
     "s:-1:\"\";",
-    "s:+1:\"a\";",
     "s::\"\";",
     "s:1;\"a\";",
     "s:1:\"a\"",
@@ -55,12 +55,10 @@ const MALFORMED: &[&str] = &[
     "O:1:\"X\"0:{}",
     "O:1:X:0:{}",
     "O:2:\"X\":0:{}",
-    "O:1:\"X\":+0:{}",
     "O:1:\"X\":0:}",
     "r:1",
     "r:;",
     "R:-1;",
-    "R:+1;",
     "r;",
     "R::1;",
 ];
@@ -88,6 +86,13 @@ const UNFIT_KEYS: &[&str] = &[
     "s:65537:\"\";",
     "s:1:\"\";",
     "s:2:\"a\";",
+    "s:+",
+    "s:+:\"\";",
+    "s:++1:\"a\";",
+    "s:+-1:\"a\";",
+    "s:-1:\"a\";",
+    "s:+65537:\"\";",
+    "i:++1;",
     "i:1",
     "i:0;i:0;",
     "i:1;",
@@ -114,9 +119,40 @@ const OVERLARGE: &[&str] = &[
     "340282366920938463463374607431768211457",
 ];
 
+/// A place of a number: what stands before it in a value, and behind it if it is 0 or 1.
+type Place = (&'static str, [&'static str; 2]);
+
+const LENGTH: Place = ("s:", [":\"\";", ":\"a\";"]);
+
+/// Every place of a number.
+const PLACES: &[Place] = &[
+    LENGTH,
+    ("a:1:{s:", [":\"\";N;}", ":\"k\";N;}"]),
+    ("a:", [":{}", ":{i:0;N;}"]),
+    ("O:", [":\"\":0:{}", ":\"X\":0:{}"]),
+    ("O:1:\"X\":", [":{}", ":{s:1:\"k\";N;}"]),
+    ("r:", [";", ";"]),
+    ("R:", [";", ";"]),
+];
+
+/// Numbers with a wrong sign, and what they would be if it were right.
+const MISSIGNED: &[(&str, usize)] = &[
+    ("+", 0),
+    ("+", 0),
+    ("-", 0),
+    ("-0", 0),
+    ("-1", 1),
+    ("++1", 1),
+    ("++1", 1),
+    ("+-1", 1),
+    ("-+1", 1),
+    ("+ 1", 1),
+    ("1+", 1),
+];
+
 /// A value that is wrong in most places. `ordinals` is the count taken before it.
 pub fn value(random: &mut Random, out: &mut Vec<u8>, ordinals: usize) {
-    match random.below(6) {
+    match random.below(7) {
         0 => out.extend(random.pick(UNKNOWN_TAGS).bytes()),
         1 => out.extend(random.pick(MALFORMED).bytes()),
         2 => {
@@ -125,6 +161,10 @@ pub fn value(random: &mut Random, out: &mut Vec<u8>, ordinals: usize) {
             out.push(b';');
         }
         3 => overlarge(random, out),
+        4 => {
+            let place = random.pick(PLACES);
+            missigned(random, out, place);
+        }
         _ => reference(random, out, ordinals),
     }
 }
@@ -132,6 +172,22 @@ pub fn value(random: &mut Random, out: &mut Vec<u8>, ordinals: usize) {
 /// A key that is wrong in most places.
 pub fn key(random: &mut Random, out: &mut Vec<u8>) {
     out.extend(random.pick(UNFIT_KEYS).bytes());
+}
+
+/// A string whose length has a wrong sign, or a `+` and no digit. Nothing else is wrong with it,
+/// unless its end is missing.
+pub fn missigned_string(random: &mut Random, out: &mut Vec<u8>) {
+    missigned(random, out, LENGTH);
+}
+
+/// The same of any number.
+fn missigned(random: &mut Random, out: &mut Vec<u8>, (before, after): Place) {
+    let (number, meant) = random.pick(MISSIGNED);
+    out.extend(before.bytes());
+    out.extend(number.bytes());
+    if !random.one_in(4) {
+        out.extend(after[meant].bytes());
+    }
 }
 
 /// A value with an integer or number above its range; the rest of it may be missing.
@@ -149,6 +205,14 @@ fn overlarge(random: &mut Random, out: &mut Vec<u8>) {
         ("O:1:\"X\":", "}"),
         ("r:", ";"),
         ("R:000", ";"),
+        ("s:+", ":\"a\";"),
+        ("s:+0", ""),
+        ("a:1:{s:+", ":\"k\";N;}"),
+        ("a:+", ":{}"),
+        ("O:+", ":\"X\":0:{}"),
+        ("O:1:\"X\":+", ":{}"),
+        ("r:+", ";"),
+        ("R:+00", ";"),
     ]);
     out.extend(before.bytes());
     out.extend(random.pick(OVERLARGE).bytes());

@@ -161,7 +161,7 @@ impl Asker<'_> {
             return out;
         };
         match self.random.one_in(2) {
-            true => keys::write_oddly(&mut out, &key),
+            true => keys::write_oddly(self.random, &mut out, &key),
             false => keys::write(self.random, &mut out, &key),
         }
         out
@@ -242,7 +242,7 @@ fn spoil(random: &mut Random, insertion: &mut Insertion, in_value: bool) {
         true => &mut insertion.value,
         false => &mut insertion.key,
     };
-    match random.below(10) {
+    match random.below(11) {
         0 => text.clear(),
         1 => text.push(random.pick(b";}N0 \0\n")),
         2 => text.extend_from_within(..),
@@ -250,6 +250,10 @@ fn spoil(random: &mut Random, insertion: &mut Insertion, in_value: bool) {
         4 => *text = random.pick(CONTAINERS).into(),
         5 => *text = random.pick(REFERENCES).into(),
         6 => damage::once(random, text),
+        7 => {
+            text.clear();
+            faults::missigned_string(random, text);
+        }
         _ => {
             text.clear();
             match in_value {
@@ -262,12 +266,13 @@ fn spoil(random: &mut Random, insertion: &mut Insertion, in_value: bool) {
 
 const CONTAINERS: &[&str] = &[
     "a:0:{}",
+    "a:+0:{}",
     "a:1:{i:0;N;}",
     "O:1:\"X\":0:{}",
     "O:1:\"X\":1:{s:1:\"x\";N;}",
 ];
 
-const REFERENCES: &[&str] = &["r:1;", "R:1;", "r:2;", "R:2;", "R:01;", "r:9;"];
+const REFERENCES: &[&str] = &["r:1;", "R:1;", "r:2;", "R:2;", "R:01;", "r:+1;", "r:9;"];
 
 /// Makes one of the texts so long that what is written has 65,536 bytes or about that many, or so
 /// long that it has more by itself.
@@ -290,10 +295,13 @@ fn lengthen(random: &mut Random, source: &[u8], insertion: &mut Insertion) {
     match random.below(3) {
         0 => stretch(&mut insertion.key, by),
         1 if (100..60_000).contains(&by) => {
-            // The length is spelled with six digits always, and six other bytes stand around.
+            // The length is spelled with six bytes always, and six other bytes stand around.
             let text_len = insertion.value.len() + by - 12;
             let text: Vec<u8> = (0..text_len).map(|_| random.byte()).collect();
-            let head = format!("s:{text_len:06}:\"");
+            let head = match random.one_in(2) {
+                true => format!("s:{text_len:+06}:\""),
+                false => format!("s:{text_len:06}:\""),
+            };
             insertion.value = [head.as_bytes(), &text, b"\";"].concat();
         }
         _ => stretch(&mut insertion.value, by),

@@ -163,14 +163,15 @@ pub fn write(random: &mut Random, out: &mut Vec<u8>, key: &Key) {
 }
 
 /// The same, with a sign or a zero that is not needed.
-pub fn write_oddly(out: &mut Vec<u8>, key: &Key) {
+pub fn write_oddly(random: &mut Random, out: &mut Vec<u8>, key: &Key) {
     match key {
         Key::Integer(value) => {
             let sign = if *value < 0 { '-' } else { '+' };
             out.extend(format!("i:{sign}0{}", value.unsigned_abs()).bytes());
         }
         Key::Text(bytes) => {
-            out.extend(format!("s:0{}:\"", bytes.len()).bytes());
+            let needless = random.pick(&["0", "+", "+0"]);
+            out.extend(format!("s:{needless}{}:\"", bytes.len()).bytes());
             out.extend(bytes);
             out.push(b'"');
         }

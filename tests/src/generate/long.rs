@@ -19,6 +19,13 @@ const STRETCHABLE: &[(&str, u8, &str)] = &[
     ("a:2:{i:5;N;s:1:\"5\";i:+", b'0', "5;}"),
     ("O:", b'0', "1:\"X\":0:{}"),
     ("O:1:\"X\":", b'0', "1:{s:1:\"x\";r:1;}"),
+    ("s:+", b'0', "1:\"a\";"),
+    ("a:+", b'0', "1:{i:0;R:1;}"),
+    ("a:1:{s:+", b'0', "1:\"k\";N;}"),
+    ("a:1:{i:0;r:+", b'0', "1;}"),
+    ("a:1:{i:0;R:+", b'0', "2;}"),
+    ("O:+", b'0', "1:\"X\":0:{}"),
+    ("O:1:\"X\":+", b'0', "0:{}"),
 ];
 
 /// A plan of an exact length, most often at the limit of 65,536 bytes, one beyond or right before.
@@ -49,6 +56,8 @@ fn one_text(random: &mut Random, length: usize) -> Vec<u8> {
         ("O:", ":0:{}"),
         ("a:1:{i:0;s:", ";}"),
         ("a:2:{s:", ";N;i:0;R:2;}"),
+        ("s:+", ";"),
+        ("a:+1:{i:0;s:+", ";}"),
     ]);
     let text_len = length - before.len() - 6 - 3 - after.len();
     let head = format!("{before}{text_len:06}:\"");
@@ -78,7 +87,17 @@ pub fn listed(random: &mut Random, power: usize) -> Vec<u8> {
     };
     let wanted = random.pick(&[power - 1, power - 1, power, power + power / 4]);
     let (pairs, count) = pairs(random, tags, around, |_, count| count < wanted);
-    format!("a:{count}:{{{pairs}}}").into_bytes()
+    let plus = plus(random);
+    format!("a:{plus}{count}:{{{pairs}}}").into_bytes()
+}
+
+/// Now and then a `+`.
+fn plus(random: &mut Random) -> &'static str {
+    if random.one_in(12) {
+        "+"
+    } else {
+        ""
+    }
 }
 
 /// Pairs with rising keys and values of these kinds, as long as more are `wanted` of their bytes and
@@ -97,7 +116,8 @@ fn pairs(
         pairs += &match tag {
             b'r' | b'R' => {
                 let named = name(random, ordinals);
-                format!("i:{};{}:{named};", count - 1, tag as char)
+                let plus = plus(random);
+                format!("i:{};{}:{plus}{named};", count - 1, tag as char)
             }
             b'a' => format!("i:{};a:0:{{}}", count - 1),
             _ => format!("i:{};N;", count - 1),

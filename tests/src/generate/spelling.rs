@@ -3,8 +3,11 @@
 use super::ALPHABET;
 use crate::random::Random;
 
-/// Spells a number, now and then with leading zeros.
+/// Spells a number, now and then with a `+` or leading zeros.
 pub fn number(random: &mut Random, out: &mut Vec<u8>, value: usize) {
+    if random.one_in(12) {
+        out.push(b'+');
+    }
     zeros(random, out);
     out.extend(value.to_string().bytes());
 }
@@ -95,7 +98,10 @@ pub fn text(random: &mut Random, longest: usize) -> Vec<u8> {
         "a:1:{",
         "i:+05;",
         "R:01;",
+        "R:+2;",
         "\":02:{",
+        "\":+1:{",
+        "s:+1:\"",
         "-0",
     ];
     let length = random.below(longest + 1);
