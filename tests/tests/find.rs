@@ -132,7 +132,7 @@ fn for_values(
 fn every_value_is_found_and_altered_paths_lead_where_the_model_says() {
     let mut random = Random::new(1);
     let (mut values, mut astray, mut elsewhere) = (0, 0, 0);
-    for _ in 0..6_000 {
+    for _ in 0..8_000 {
         let plan = generate::plan(&mut random);
         let (Ok(rows), Some(model)) = (model::read(&plan, usize::MAX), model::finder(&plan)) else {
             continue;
