@@ -1,5 +1,6 @@
 /* Tonschnecke: reads a PHP-serialized value (a plan) into a table of nodes, writes its canonical text, and puts a pair into
- * one of its arrays. docs/GUIDE.md shows how it is used, docs/FORMAT.md what is a plan, with an example of each refusal.
+ * one of its arrays. docs/GUIDE.md shows how it is used, docs/FORMAT.md what is a plan, with an example of each refusal. Since
+ * request L1 a length, a count and the number of a reference may have one leading +, which canonical text never has.
  *
  * Link with libtonschnecke.a. What is said here of the result, the table and the output of ton_read, ton_canonicalize and
  * ton_insert is proved of the Rattle code, for every source, every table and every output;

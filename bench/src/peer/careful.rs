@@ -114,8 +114,10 @@ impl<'a, T: Trace> Scan<'a, T> {
 
     fn number(&mut self) -> Step<usize> {
         let from = self.at;
+        self.at += usize::from(self.rest().first() == Some(&b'+'));
+        let first_digit = self.at;
         let value = self.digits(NUMBER_LIMIT)?;
-        self.tell_zeros(from, from);
+        self.tell_zeros(from, first_digit);
         Ok(value as usize)
     }
 

@@ -91,7 +91,9 @@ impl Edit<'_> {
 
     /// Where the number stands that the reference at a position names.
     fn named(&self, start: usize) -> Range<usize> {
-        start + 2..run_end(self.texts.source, start + 2)
+        let from = start + 2;
+        let plus = usize::from(self.texts.source[from] == b'+');
+        from..run_end(self.texts.source, from + plus)
     }
 
     /// Of a reference. Those before the gap name what stands before it.

@@ -15,6 +15,7 @@ use Rattle.format.specs.Meaning.{meaning, Means}
 use Rattle.format.specs.Canonical.{shortest, shortestInt, canonical}
 use Rattle.format.proofs.Maps.{refs-all, map-map, key-map, scalar-map, container-map}
 use Rattle.format.proofs.NormalForm.{canonical-meaning, canonical-valid, spelled-valid}
+use Rattle.format.proofs.Unique.{unique}
 
 -- what was read of a number, but with a plus
 abbrev pub withPlus : (Spelling × ℕ) × List ℕ → Answer ((Spelling × ℕ) × List ℕ)
@@ -25,10 +26,10 @@ pub plus-reads : (l : ℕ) (s : List ℕ) → plusOf s ≡ (false, s) → number
 unfolding number
 plus-reads l s e = rw e (go (digits l numberLimit s))
   where
-    spelled : Bool → (ℕ × ℕ) × List ℕ → Answer ((Spelling × ℕ) × List ℕ)
-    spelled p ((z, n), r) = ok ((record { plus = p; zeros = z }, n), r)
+    spelledSo : Bool → (ℕ × ℕ) × List ℕ → Answer ((Spelling × ℕ) × List ℕ)
+    spelledSo p ((z, n), r) = ok ((record { plus = p; zeros = z }, n), r)
 
-    go : (a : Answer ((ℕ × ℕ) × List ℕ)) → (a >>= spelled true) ≡ ((a >>= spelled false) >>= withPlus)
+    go : (a : Answer ((ℕ × ℕ) × List ℕ)) → (a >>= spelledSo true) ≡ ((a >>= spelledSo false) >>= withPlus)
     go (ok q) = refl
     go (refused c p) = refl
 
@@ -89,7 +90,12 @@ plus-means v w e f h =
       is = sym (canonical-meaning w) ∙ ap meaning (sym one) ∙ canonical-meaning v;
     }
 
--- "Canonical text never has it."
-pub canonical-no-plus : (v : Value) → withoutPlus (canonical v) ≡ canonical v
+without-canonical : (v : Value) → withoutPlus (canonical v) ≡ canonical v
 unfolding canonical withoutPlus
-canonical-no-plus v = spelled-twice shortestInt (λ x. x) (λ w. shortest) (λ w. record { plus = false; zeros = w .zeros }) v
+without-canonical v = spelled-twice shortestInt (λ x. x) (λ w. shortest) (λ w. record { plus = false; zeros = w .zeros }) v
+
+-- "Canonical text never has it.", whatever plan its bytes are taken for
+pub canonical-no-plus : (v w : Value) → Valid v → Valid w → print w ≡ print (canonical v) → withoutPlus w ≡ w
+canonical-no-plus v w f g e =
+    let one : w ≡ canonical v = unique w (canonical v) g (canonical-valid v f) e in
+    ap withoutPlus one ∙ without-canonical v ∙ sym one
