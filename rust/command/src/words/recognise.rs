@@ -7,6 +7,7 @@ mod starts;
 #[cfg(test)]
 mod tests;
 
+use super::digits;
 use json::is_json;
 use starts::by_start;
 use tonschnecke::{Plan, Reason, Refusal, SOURCE_LIMIT};
@@ -61,9 +62,12 @@ fn full(source: &[u8]) -> Option<String> {
 }
 
 fn letter(text: &[u8]) -> Option<String> {
-    let [first, b':', b'0'..=b'9', ..] = text else {
+    let [first, b':', rest @ ..] = text else {
         return None;
     };
+    if !digits::stand_in_front(rest) {
+        return None;
+    }
     let (_, what) = LETTERS.iter().find(|(letter, _)| letter == first)?;
     Some((*what).into())
 }
@@ -73,8 +77,7 @@ fn string(text: &[u8]) -> Option<String> {
     let [b's' | b'O', b':', rest @ ..] = text else {
         return None;
     };
-    let digits = rest.iter().take_while(|byte| byte.is_ascii_digit()).count();
-    let (digits, rest) = rest.split_at(digits);
+    let (digits, rest) = digits::split(rest);
     let rest = rest.strip_prefix(b":")?;
     let what = if rest.starts_with(b"&quot;") {
         "its quotes were changed for HTML, to &quot;; take the plan as it was before"

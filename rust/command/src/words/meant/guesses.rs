@@ -1,5 +1,6 @@
 //! Texts that may have been meant, the likeliest first.
 
+use super::super::digits;
 use super::number::{is_integer, numeral, pointed};
 use super::quotes::{closing, opening, plainly_unquoted, unquoted};
 use super::shape::{is_colon, shape, Shape};
@@ -136,8 +137,7 @@ fn strings(text: &[u8], body: &[u8]) -> Vec<Guess> {
 /// not be the last, and escapes leave open which bytes are meant, unless the length says it.
 fn string(body: &[u8]) -> Option<(&[u8], Option<usize>)> {
     let sure = |text| plainly_unquoted(text).filter(|bytes| !may_be_escaped(bytes));
-    let digits = body.iter().take_while(|byte| byte.is_ascii_digit()).count();
-    let (digits, rest) = body.split_at(digits);
+    let (digits, rest) = digits::split(body);
     if digits.is_empty() {
         let bytes = sure(body).or_else(|| word(body));
         return bytes.map(|bytes| (bytes, None));

@@ -1,5 +1,6 @@
 //! What sort of text it is that did not fit.
 
+use super::super::digits;
 use super::number::{is_grouped, is_grouped_integer};
 use super::quotes::{opening, unquoted};
 use tonschnecke::{Plan, Reason};
@@ -33,8 +34,10 @@ pub fn shape(text: &[u8]) -> Shape<'_> {
     match text {
         _ if text.iter().all(|byte| b",;".contains(byte)) => Shape::Empty,
         [b'{', .., b'}'] | [b'[', .., b']'] => Shape::Container,
-        [b'r' | b'R', b':', digit, ..] if digit.is_ascii_digit() => Shape::Reference,
-        [b'a' | b'A' | b'o' | b'O' | b'C' | b'E', b':', digit, ..] if digit.is_ascii_digit() => {
+        [b'r' | b'R', b':', rest @ ..] if digits::stand_in_front(rest) => Shape::Reference,
+        [b'a' | b'A' | b'o' | b'O' | b'C' | b'E', b':', rest @ ..]
+            if digits::stand_in_front(rest) =>
+        {
             Shape::Container
         }
         _ => followed(text)

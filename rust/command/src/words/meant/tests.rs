@@ -155,6 +155,7 @@ const VALUES: &[(&str, &str, &str)] = &[
     ("NULL", "N;", "null is N;"),
     ("s:4:\"M\u{e4}rz\";", "s:5:\"M\u{e4}rz\";", BYTES_5),
     ("s:4:\"M\u{e4}rz\"", "s:5:\"M\u{e4}rz\";", BYTES_5),
+    ("s:+4:\"M\u{e4}rz\";", "s:5:\"M\u{e4}rz\";", BYTES_5),
     ("s:6:\"north\";", "s:5:\"north\";", BYTES_5),
     ("s:4:\"no\\rd\";", "", NO_STRING),
     ("s:4:\"M%E4rz\";", "", NO_STRING),
@@ -272,6 +273,7 @@ const VALUES: &[(&str, &str, &str)] = &[
     ("E:11:\"Suit:Hearts\";", "", CONTAINER),
     ("[1, 2]", "", CONTAINER),
     ("R:5;", "", REFERENCE),
+    ("R:+5;", "", REFERENCE),
     ("r:5", "", REFERENCE),
 ];
 

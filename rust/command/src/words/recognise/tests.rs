@@ -98,6 +98,7 @@ const NAMED: &[(&[u8], &str)] = &[
     (b"\nN;", BLANKS),
     (b" \r\n a:1:{i:0;", BLANKS),
     (b"s:3:&quot;may&quot;;", HTML),
+    (b"s:+3:&quot;may&quot;;", HTML),
     (b"a:1:{i:0;s:3:&quot;may&quot;;}", HTML),
     (b"O:3:&quot;Day&quot;:0:{}", HTML),
     (b"s:3:\\\"may\\\";", BACKSLASH),
