@@ -3,7 +3,6 @@ use crate::Scan;
 use crate::Text;
 use crate::number::number;
 use bytes_at::byte_is;
-use bytes_at::bytes_are;
 use format::codes::TEXT_UNFIT;
 ghost use mathlib.Core.List.{[], _∷_};
 ghost use Rattle.format.specs.Bytes.{byte};
@@ -22,16 +21,18 @@ pub(crate) fn quoted(source: &[u8], at: usize, close: u8) -> Scan
         return scan;
     };
     let colon = run.next;
-    if !bytes_are(source, colon, b':', b'"') {
+    let size = run.content as usize;
+    // One test of the room for all that follows: each refusal is the same, and LLVM keeps a function of this size in line (in_line.rt).
+    if source.len() - colon < size + 4 {
         return Scan::Not(TEXT_UNFIT);
     }
     let offset = colon + 2;
-    let size = run.content as usize;
-    if source.len() - offset < size {
-        return Scan::Not(TEXT_UNFIT);
-    }
     let end = offset + size;
-    if !bytes_are(source, end, b'"', close) {
+    if source[colon] != b':'
+        || source[colon + 1] != b'"'
+        || source[end] != b'"'
+        || source[end + 1] != close
+    {
         return Scan::Not(TEXT_UNFIT);
     }
     Scan::Is(Text {

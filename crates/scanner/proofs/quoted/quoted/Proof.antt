@@ -1,12 +1,15 @@
 -- `scanner::quoted::quoted` meets its contract. Assumes nothing.
-use Prim.Native.Nat.{ℕ, _+_, _<_}
+use Prim.Native.Nat.{ℕ, _+_, _≤_, _<_}
 use native.Mathlib.Omega.{arith}
 use mathlib.Core.Path.{_≡_, sym, refl, _∙_}
-use mathlib.Core.Bool.{true, _&&_}
+use mathlib.Core.Logic.{⊎-elim}
+use mathlib.Core.Bool.{true}
 use mathlib.Core.List.{List}
 use lib.Dec.{eqb, lit<}
-use borrow.Author.Tests.{not-true, not-false}
+use lib.ListN.{length}
+use borrow.Author.Tests.{eqb-true, eqb-false, not-true, not-false}
 use Rattle.format.specs.Bytes.{byte}
+use Rattle.format.specs.Limits.{numberLimit}
 use Rattle.format.specs.Read.{number}
 use Rattle.bytes_at.specs.ByteAt.{byteAt}
 use Rattle.bytes_at.proofs.BytesAt.{byte-there, pair-there}
@@ -46,13 +49,19 @@ module _ (sized : tie.After-scan) where
   size : Found number valueTold (source past) (at past + 1) run
   size = found-of (sized .before .before .number .ensures) (sized .scan .given .1)
 
--- behind the opening quote
-module _ (opened : tie.Else2) where
-  abbrev sized : tie.After-scan
-  sized = opened .before .before .before
+  fits : run .content ≤ numberLimit
+  fits = quotes.fits _ _ _ (small past) (colon past) _ size
 
-  quote : (eqb (byteAt (source (past sized)) (run sized .next)) (byte ":") && eqb (byteAt (source (past sized)) (run sized .next + 1)) (byte "\"")) ≡ true
-  quote = sym (opened .before .bytes-are .ensures) ∙ not-false _ (opened .if2 .left)
+-- behind the test of its room
+module _ (roomy : tie.Else2) where
+  abbrev sized : tie.After-scan
+  sized = roomy .before .before
+
+  room : run sized .next + 2 + run sized .content + 1 < length (source (past sized))
+  room = omega (arith, roomy .if2 .left, size sized .inside)
+
+  front : run sized .next + 1 < length (source (past sized))
+  front = omega (arith, room)
 
 byte-is-requires : tie.Need-byte-is-requires
 byte-is-requires c κs = search needs
@@ -80,55 +89,66 @@ returns-2 c =
     let past = scanned .before in
     answered (quotes.quoted-not _ _ _ (small past) (colon past) _ _ (scanned .number .ensures) (c .enum-told .given .1))
 
-bytes-are-requires : tie.Need-bytes-are-requires
-bytes-are-requires c κs = search needs
+sub-if2 : tie.Need-sub-if2
+sub-if2 c = omega (arith, size (c .before) .inside)
+
+add-if2 : tie.Need-add-if2
+add-if2 c = omega (arith, fits (c .before))
 
 returns-3 : tie.Need-returns-3
 returns-3 c =
-    let compared = c .before in
-    let sized = compared .before .before in
-    answered (quotes.quoted-quote _ _ _ (small (past sized)) (colon (past sized)) _ (size sized)
-    (sym (compared .bytes-are .ensures) ∙ not-true _ (c .if2 .taken)))
+    let sized = c .before .before in
+    answered (quotes.quoted-unframed _ _ _ (small (past sized)) (colon (past sized)) _ (size sized)
+    (λ o e. omega (arith, pair-there _ _ _ _ e (small (past sized)), c .if2 .taken)))
 
 add-offset : tie.Need-add-offset
-add-offset c = omega (arith, pair-there _ _ _ _ (quote c) (lit< tt))
+add-offset c = search needs
 
-sub-if3 : tie.Need-sub-if3
-sub-if3 c = omega (arith, pair-there _ _ _ _ (quote c) (lit< tt))
+add-end : tie.Need-add-end
+add-end c = search needs
+
+shared-slice-read-if3 : tie.Need-shared-slice-read-if3
+shared-slice-read-if3 c = search needs
+
+add-if4 : tie.Need-add-if4
+add-if4 c = search needs
+
+shared-slice-read-if4 : tie.Need-shared-slice-read-if4
+shared-slice-read-if4 c = search needs
+
+shared-slice-read-if5 : tie.Need-shared-slice-read-if5
+shared-slice-read-if5 c = search needs
+
+add-if6 : tie.Need-add-if6
+add-if6 c = search needs
+
+shared-slice-read-if6 : tie.Need-shared-slice-read-if6
+shared-slice-read-if6 c = search needs
 
 returns-4 : tie.Need-returns-4
 returns-4 c =
-    let opened = c .before in
-    let sized = sized opened in
-    answered (quotes.quoted-short _ _ _ (small (past sized)) (colon (past sized)) _ (size sized) (quote opened) (c .if3 .taken))
+    let roomy = c .before .before in
+    let sized = sized roomy in
+    answered (quotes.quoted-unframed _ _ _ (small (past sized)) (colon (past sized)) _ (size sized) (λ o e.
+    ⊎-elim (λ h. h .taken (quotes.first-is _ _ _ _ (front roomy) o))
+    (⊎-elim (λ h. eqb-false _ _ (not-true _ (h .2 .taken)) (quotes.second-is _ _ _ _ (front roomy) o))
+    (⊎-elim (λ h. eqb-false _ _ (not-true _ (h .4 .taken)) (quotes.first-is _ _ _ _ (room roomy) e))
+    (λ h. eqb-false _ _ (not-true _ (h .6 .taken)) (quotes.second-is _ _ _ _ (room roomy) e))))
+    (c .if3 .came)))
 
-add-end : tie.Need-add-end
-add-end c = omega (arith, pair-there _ _ _ _ (quote (c .before)) (lit< tt), c .if3 .left)
-
-bytes-are-requires-2 : tie.Need-bytes-are-requires-2
-bytes-are-requires-2 c κs = search needs
+add-t12 : tie.Need-add-t12
+add-t12 c = search needs
 
 returns-5 : tie.Need-returns-5
 returns-5 c =
-    let compared = c .before in
-    let enough = compared .before in
-    let opened = enough .before in
-    let sized = sized opened in
-    answered (quotes.quoted-open _ _ _ (small (past sized)) (colon (past sized)) _ (size sized) (quote opened) (enough .if3 .left)
-    (sym (compared .bytes-are2 .ensures) ∙ not-true _ (c .if4 .taken)))
-
-add-t13 : tie.Need-add-t13
-add-t13 c =
-    omega (arith, pair-there _ _ _ _ (sym (c .before .bytes-are2 .ensures) ∙ not-false _ (c .if4 .left)) (small (past (sized (c .before .before .before)))))
-
-returns-6 : tie.Need-returns-6
-returns-6 c =
-    let compared = c .before in
-    let enough = compared .before in
-    let opened = enough .before in
-    let sized = sized opened in
-    answered (quotes.quoted-is _ _ _ (small (past sized)) (colon (past sized)) _ (size sized) (quote opened) (enough .if3 .left) _ refl
-    (sym (compared .bytes-are2 .ensures) ∙ not-false _ (c .if4 .left)))
+    let three = c .before .before in
+    let two = three .before .before in
+    let one = two .before .before in
+    let roomy = one .before .before in
+    let sized = sized roomy in
+    answered (quotes.quoted-is _ _ _ (small (past sized)) (colon (past sized)) _ (size sized)
+    (quotes.pair-is _ _ _ _ (front roomy) (one .if3 .left) (eqb-true _ _ (not-false _ (two .if4 .left))))
+    (quotes.pair-is _ _ _ _ (room roomy) (eqb-true _ _ (not-false _ (three .if5 .left))) (eqb-true _ _ (not-false _ (c .if6 .left)))) _ refl)
 
 pub quoted-spec : {M : Type 1} → statement M
 quoted-spec =
@@ -141,13 +161,17 @@ quoted-spec =
     enum-known-scan
     enum-told
     returns-2
-    bytes-are-requires
+    sub-if2
+    add-if2
     returns-3
     add-offset
-    sub-if3
-    returns-4
     add-end
-    bytes-are-requires-2
-    returns-5
-    add-t13
-    returns-6)
+    shared-slice-read-if3
+    add-if4
+    shared-slice-read-if4
+    shared-slice-read-if5
+    add-if6
+    shared-slice-read-if6
+    returns-4
+    add-t12
+    returns-5)
