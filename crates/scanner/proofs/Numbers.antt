@@ -296,7 +296,7 @@ abbrev spelledSo : Bool → ℕ × ℕ → Spelling × ℕ
 spelledSo p n = (record { plus = p; zeros = n .0 }, n .1)
 
 -- behind its plus, if there is one
-pub number-is : {s : List ℕ} {at from : ℕ} {p : Bool} {r : Scan} → at ≤ from → plusOf (drop at s) ≡ (p, drop from s)
+number-is : {s : List ℕ} {at from : ℕ} {p : Bool} {r : Scan} → at ≤ from → plusOf (drop at s) ≡ (p, drop from s)
     → Scans (digitsText numberLimit) valueTold s from r → Scans number valueTold s at r
 unfolding number
 number-is {p = p} k e h = scans-part h k (spelledSo p) (λ l. rw (number, e)) (λ n next. refl)

@@ -1,14 +1,11 @@
 -- `scanner::number::number` meets its contract. Assumes nothing.
 use Prim.Native.Nat.{_+_, _-_}
 use native.Mathlib.Omega.{arith}
-use mathlib.Core.Path.{_≡_, refl, sym, _∙_, subst}
-use mathlib.Core.Bool.{true}
-use lib.Dec.{eqb, lit<}
+use mathlib.Core.Path.{refl, sym, _∙_, subst}
+use lib.Dec.{lit<}
 use borrow.Author.Needs.{needs}
 use borrow.Author.Tests.{not-true, not-false}
-use Rattle.format.specs.Bytes.{byte}
 use Rattle.format.specs.Read.{number}
-use Rattle.bytes_at.specs.ByteAt.{byteAt}
 use Rattle.bytes_at.proofs.BytesAt.{byte-there}
 use Rattle.bytes_at.proofs.Signs.{plus-there, plus-none}
 use Rattle.scanner.specs.Scans.{Scans, valueTold}
