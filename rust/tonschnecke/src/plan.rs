@@ -179,7 +179,7 @@ impl Plan {
     /// The plan in its canonical text: the one spelling that all plans of this meaning share.
     ///
     /// ```
-    /// let plan = tonschnecke::Plan::read("a:01:{i:+0;N;}")?;
+    /// let plan = tonschnecke::Plan::read("a:+01:{i:+0;N;}")?;
     /// assert_eq!(plan.canonical().bytes(), b"a:1:{i:0;N;}");
     /// # Ok::<(), tonschnecke::Refusal>(())
     /// ```
