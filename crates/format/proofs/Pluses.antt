@@ -71,13 +71,16 @@ module _ (i j : Literal → Literal) (f g : Spelling → Spelling) where
       (container-map (quotedBy f) (quotedBy g) (quotedBy gf) (λ q. refl) (h .container)))
       (λ r t. refl) v (refs-all (λ r. Unit {0}) (λ r. tt) v)
 
+abbrev plusless : Spelling → Spelling
+plusless w = record { plus = false; zeros = w .zeros }
+
 -- the plus of each number left out
 unfoldable pub withoutPlus : Value → Value
-withoutPlus v = mapSpelling (λ x. x) (λ w. record { plus = false; zeros = w .zeros }) v
+withoutPlus v = mapSpelling (λ x. x) plusless v
 
 canonical-without : (v : Value) → canonical (withoutPlus v) ≡ canonical v
 unfolding canonical withoutPlus
-canonical-without v = spelled-twice (λ x. x) shortestInt (λ w. record { plus = false; zeros = w .zeros }) (λ w. shortest) v
+canonical-without v = spelled-twice (λ x. x) shortestInt plusless (λ w. shortest) v
 
 -- WITH AND WITHOUT: two plans that differ in nothing but pluses mean the same, and where one is a plan, so is the other, if it is short enough
 pub plus-means : (v w : Value) → withoutPlus v ≡ withoutPlus w → Valid v → length (print w) ≤ sourceLimit → Means (print w) (meaning v)
@@ -92,7 +95,7 @@ plus-means v w e f h =
 
 without-canonical : (v : Value) → withoutPlus (canonical v) ≡ canonical v
 unfolding canonical withoutPlus
-without-canonical v = spelled-twice shortestInt (λ x. x) (λ w. shortest) (λ w. record { plus = false; zeros = w .zeros }) v
+without-canonical v = spelled-twice shortestInt (λ x. x) (λ w. shortest) plusless v
 
 -- "Canonical text never has it.", whatever plan its bytes are taken for
 pub canonical-no-plus : (v w : Value) → Valid v → Valid w → print w ≡ print (canonical v) → withoutPlus w ≡ w

@@ -42,7 +42,8 @@ digits-printed l top z n c r h e =
       zeros,
     )
 
-plus-digits : (ds r : List ℕ) → 0 < length ds → T (areDigits ds) → plusOf (ds ++ r) ≡ (false, ds ++ r)
+-- what begins with digits has no plus, and no sign
+pub plus-digits : (ds r : List ℕ) → 0 < length ds → T (areDigits ds) → plusOf (ds ++ r) ≡ (false, ds ++ r)
 plus-digits [] r h t = absurd (omega arith)
 plus-digits (d ∷ ds) r h t = let b : 48 ≤ d = digit-low d (and-left (isDigit d) (areDigits ds) t) in rw (ne-eqb 43 d (λ e. omega arith), plusOf)
 
@@ -55,7 +56,7 @@ pub number-printed : (l : ℕ) (w : Spelling) (n c : ℕ) (r : List ℕ) → n �
 unfolding number
 number-printed l w n c r h e = rw (plus-printed (w .plus) (w .zeros) n (c ∷ r), digits-printed l numberLimit (w .zeros) n c r h e)
 
-sign-digits : (ds r : List ℕ) → 0 < length ds → T (areDigits ds) → signOf (ds ++ r) ≡ (unsigned, ds ++ r)
+pub sign-digits : (ds r : List ℕ) → 0 < length ds → T (areDigits ds) → signOf (ds ++ r) ≡ (unsigned, ds ++ r)
 sign-digits [] r h t = absurd (omega arith)
 sign-digits (d ∷ ds) r h t =
     let b : 48 ≤ d = digit-low d (and-left (isDigit d) (areDigits ds) t) in

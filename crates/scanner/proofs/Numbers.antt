@@ -4,16 +4,16 @@ use native.Mathlib.Omega.{arith}
 use mathlib.Core.Path.{_≡_, refl, sym, ap, ap₂, _∙_, subst}
 use mathlib.Core.Logic.{⊎-elim}
 use mathlib.Core.Bool.{Bool, true, false, _&&_}
-use mathlib.Core.List.{List, [], _∷_, _++_}
+use mathlib.Core.List.{List, [], _++_}
 use lib.Dec.{eqb, ltb, lit<, ltb→lt}
 use lib.ListN.{length, drop, length-drop, length-append}
-use borrow.Author.Tests.{ne-eqb, le-leb, lt-leb, lt-ltb, le-ltb}
-use Rattle.decimal.specs.Digits.{isDigit, digitsOf, value, decimal}
+use borrow.Author.Tests.{le-leb, lt-leb, lt-ltb, le-ltb}
+use Rattle.decimal.specs.Digits.{digitsOf, afterDigits, value, decimal}
 use Rattle.decimal.specs.Complement.{pattern}
 use Rattle.decimal.specs.Promise.{RunAt}
 use Rattle.decimal.specs.declared.Run.{Run}
-use Rattle.decimal.proofs.Decide.{Test, passed, failed, test, T-of}
-use Rattle.decimal.proofs.Numerals.{digit-low}
+use Rattle.decimal.proofs.Numerals.{digits-split}
+use Rattle.decimal.proofs.Numerals as numerals
 use Rattle.format.specs.Bytes.{byte, bytes}
 use Rattle.format.specs.Syntax.{Sign, unsigned, plus, minus, Literal, Spelling, writeNumber}
 use Rattle.format.specs.Keys.{integer}
@@ -24,6 +24,7 @@ use Rattle.format.specs.Table.{word}
 use Rattle.format.proofs.Answers.{ok-same, refused-same, not-both, bind-ok, bind-refused, require-ok}
 use Rattle.format.proofs.Texts.{number-ok}
 use Rattle.format.proofs.Fronts.{number-front}
+use Rattle.format.proofs.Printed.{plus-digits, sign-digits}
 use Rattle.scanner.specs.declared.Text.{Text}
 use Rattle.scanner.specs.declared.number.Front.{Front}
 use Rattle.scanner.specs.declared.Scan.{Scan}
@@ -180,26 +181,13 @@ module _ (s : List ℕ) (at top : ℕ) (r : Run) (h : RunAt s at (top + 1) r) wh
 
 -- ---- signs
 
-pub not-plus : (b : ℕ) → isDigit b ≡ true → eqb 43 b ≡ false
-not-plus b t = ne-eqb 43 b (λ e. omega (arith, digit-low b (T-of t), e))
-
-pub not-minus : (b : ℕ) → isDigit b ≡ true → eqb 45 b ≡ false
-not-minus b t = ne-eqb 45 b (λ e. omega (arith, digit-low b (T-of t), e))
-
 -- what begins with digits has no sign, and no plus
-first-digit : (t : List ℕ) → 0 < length (digitsOf t) → (b : ℕ) × (u : List ℕ) × (t ≡ b ∷ u) × (isDigit b ≡ true)
-first-digit [] h = absurd (omega (arith, h))
-first-digit (b ∷ t) h = go (test (isDigit b)) h
-  where
-    go : Test (isDigit b) → 0 < length (digitsOf (b ∷ t)) → (c : ℕ) × (u : List ℕ) × (b ∷ t ≡ c ∷ u) × (isDigit c ≡ true)
-    go (passed e) h = (b, t, refl, e)
-    go (failed e) h = absurd (omega (arith, rw (e, digitsOf) at h))
-
 pub digits-unsigned : (t : List ℕ) → 0 < length (digitsOf t) → signOf t ≡ (unsigned, t)
-digits-unsigned t h = let d = first-digit t h in rw (d .2, signOf, not-plus (d .0) (d .3), not-minus (d .0) (d .3))
+digits-unsigned t h =
+    subst (λ (x : List ℕ). signOf x ≡ (unsigned, x)) (sym (digits-split t)) (sign-digits (digitsOf t) (afterDigits t) h (numerals.digits-are t))
 
 digits-plusless : (t : List ℕ) → 0 < length (digitsOf t) → plusOf t ≡ (false, t)
-digits-plusless t h = let d = first-digit t h in rw (d .2, plusOf, not-plus (d .0) (d .3))
+digits-plusless t h = subst (λ (x : List ℕ). plusOf x ≡ (false, x)) (sym (digits-split t)) (plus-digits (digitsOf t) (afterDigits t) h (numerals.digits-are t))
 
 -- digits that are read are there
 read-digits : (l top : ℕ) (t : List ℕ) (q : (ℕ × ℕ) × List ℕ) → digits l top t ≡ ok q → 0 < length (digitsOf t)

@@ -24,14 +24,14 @@ use Rattle.scanner.proofs.Numbers.{scans-is, scans-not, unfit-part, num
 
 -- ---- two bytes, as they are read
 
-abbrev pair : (s : List ℕ) (i v w : ℕ) → Bool
-pair s i v w = eqb (byteAt s i) v && eqb (byteAt s (i + 1)) w
+abbrev pairAt : (s : List ℕ) (i v w : ℕ) → Bool
+pairAt s i v w = eqb (byteAt s i) v && eqb (byteAt s (i + 1)) w
 
 module _ (s : List ℕ) (i v w : ℕ) where
-  pub pair-is : i + 1 < length s → getD s i 0 ≡ v → getD s (i + 1) 0 ≡ w → pair s i v w ≡ true
+  pub pair-is : i + 1 < length s → getD s i 0 ≡ v → getD s (i + 1) 0 ≡ w → pairAt s i v w ≡ true
   pair-is h a b = rw (eq-eqb (byteAt s i) v (byte-in s i (omega arith) ∙ a), eq-eqb (byteAt s (i + 1)) w (byte-in s (i + 1) h ∙ b))
 
-  module _ (h : i + 1 < length s) (e : pair s i v w ≡ true) where
+  module _ (h : i + 1 < length s) (e : pairAt s i v w ≡ true) where
     pub first-is : getD s i 0 ≡ v
     first-is = sym (byte-in s i (omega arith)) ∙ eqb-true (byteAt s i) v (pair-first s i v w e)
 
@@ -79,10 +79,10 @@ module _ (s : List ℕ) (at close : ℕ) (small : close < 256) where
       end = offset + run .content
 
       abbrev opens : Bool
-      opens = pair s (run .next) (byte ":") (byte "\"")
+      opens = pairAt s (run .next) (byte ":") (byte "\"")
 
       abbrev closes : Bool
-      closes = pair s end (byte "\"") close
+      closes = pairAt s end (byte "\"") close
 
       entered : opens ≡ true → (l : ℕ) → expect l (bytes ":\"") (drop (run .next) s) ≡ ok (drop offset s)
       entered e l = pair-yes s (run .next) (byte ":") (byte "\"") e l [] (lit< tt) (lit< tt)
