@@ -16,7 +16,7 @@ use lib.Ieee.Scale.{finite}
 use Rattle.decimal.specs.Digits.{value}
 use Rattle.decimal.proofs.Decide.{and_left, and_right}
 use Rattle.format.specs.Syntax.{Sign, unsigned, plus, minus}
-use Rattle.format.specs.Limits.{isSpecial}
+use Rattle.format.specs.Limits.{is_special}
 use Rattle.floats.specs.Parts.{parts_of, digits}
 use Rattle.floats.specs.Promise.{is_minus}
 use Rattle.conversion.specs.Figure.{significant, digit_limit, power_of, power_limit, in_reach, is_real, float_of, scaled, with_sign, real_of}
@@ -117,13 +117,13 @@ module _ (t : List ℕ) (r : T (is_real t)) where
   reach : nat_abs power ≤ power_limit
   unfolding is_real
   reach = leb→le (nat_abs power) power_limit
-      (and_right (not (isSpecial t) && leb (length (significant (digits (parts_of t)))) digit_limit) (in_reach power) r)
+      (and_right (not (is_special t) && leb (length (significant (digits (parts_of t)))) digit_limit) (in_reach power) r)
 
   fifteen : number < 10 ^ digit_limit
   unfolding is_real
   fifteen = (fifteen_digits t).0 (leb→le (length (significant (digits (parts_of t)))) digit_limit
-      (and_right (not (isSpecial t)) (leb (length (significant (digits (parts_of t)))) digit_limit)
-      (and_left (not (isSpecial t) && leb (length (significant (digits (parts_of t)))) digit_limit) (in_reach power) r)))
+      (and_right (not (is_special t)) (leb (length (significant (digits (parts_of t)))) digit_limit)
+      (and_left (not (is_special t) && leb (length (significant (digits (parts_of t)))) digit_limit) (in_reach power) r)))
 
   small : number ≤ 2 ^ 53
   small = le_of_lt (lt_of_lt_of_le fifteen (lit≤ tt))

@@ -13,12 +13,12 @@ use Rattle.decimal.specs.Digits.{value}
 use Rattle.decimal.specs.declared.Signed.{Signed}
 use Rattle.decimal.proofs.Decide.{Test, passed, failed, test, T_of}
 use Rattle.format.specs.Syntax.{Sign, unsigned, plus, minus}
-use Rattle.format.specs.Limits.{isSpecial}
+use Rattle.format.specs.Limits.{is_special}
 use Rattle.floats.specs.Parts.{Parts, parts_of, digits, exponent_of}
 use Rattle.floats.specs.Promise.{is_minus, SignificandOf}
 use Rattle.floats.specs.declared.parts.Significand.{Significand}
 use Rattle.floats.proofs.Apart.{exponent-there, fraction-inside}
-use Rattle.conversion.specs.Figure.{Figure, real, neither, significant, digit_limit, power_of, power_limit, in_reach, is_real, float_of, scaled, with_sign}
+use Rattle.conversion.specs.Figure.{Figure, real, neither, significant, digit_limit, power_of, power_limit, in_reach, real_text, float_of, scaled, with_sign}
 use Rattle.conversion.specs.Figure.{real_of, float_figure}
 use Rattle.conversion.specs.Powers.{signed_of, Reaches}
 use Rattle.conversion.proofs.Digits.{fifteen_digits}
@@ -37,23 +37,23 @@ module _ (t : List ℕ) where
   abbrev count : ℕ
   count = length (significant (digits (parts_of t)))
 
-  no_figure : is_real t ≡ false → neither ≡ float_figure t
+  no_figure : real_text t ≡ false → neither ≡ float_figure t
   unfolding float_figure
   no_figure e = rw (e, float_figure)
 
-  pub special_none : isSpecial t ≡ true → neither ≡ float_figure t
-  special_none e = no_figure (unfold is_real in rw e)
+  pub special_none : is_special t ≡ true → neither ≡ float_figure t
+  special_none e = no_figure (unfold real_text in rw e)
 
   module _ (s : Significand) (h : SignificandOf t (10 ^ digit_limit) s) where
     pub many_none : 10 ^ digit_limit ≤ s.digits → neither ≡ float_figure t
-    unfolding is_real
+    unfolding real_text
     many_none l = no_figure (go (test (leb count digit_limit)))
       where
-        go : Test (leb count digit_limit) → is_real t ≡ false
+        go : Test (leb count digit_limit) → real_text t ≡ false
         go (passed e) =
             let few = (fifteen_digits t).0 (leb→le count digit_limit (T_of e)) in
             absurd (omega (arith, h.digits))
-        go (failed e) = rw (e, and-false (not (isSpecial t)))
+        go (failed e) = rw (e, and-false (not (is_special t)))
 
     pub inside : s.fraction ≤ length t
     inside = omega (arith, h.fraction, fraction-inside t)
@@ -67,14 +67,14 @@ module _ (t : List ℕ) where
       reach = ap in_reach (sym power-is) ∙ r.within
 
       pub beyond-none : power_limit < p.magnitude → neither ≡ float_figure t
-      beyond-none l = no_figure (unfold is_real in rw (reach ∙ lt-leb p.magnitude power_limit l) (and-false (not (isSpecial t) && leb count digit_limit)))
+      beyond-none l = no_figure (unfold real_text in rw (reach ∙ lt-leb p.magnitude power_limit l) (and-false (not (is_special t) && leb count digit_limit)))
 
-      module _ (o : isSpecial t ≡ false) (few : s.digits < 10 ^ digit_limit) (l : p.magnitude ≤ power_limit) where
+      module _ (o : is_special t ≡ false) (few : s.digits < 10 ^ digit_limit) (l : p.magnitude ≤ power_limit) where
         number_is : s.digits ≡ value (digits (parts_of t))
         number_is = omega (arith, h.digits)
 
-        real_text : is_real t ≡ true
-        unfolding is_real
+        real_text : real_text t ≡ true
+        unfolding real_text
         real_text =
             let n : leb count digit_limit ≡ true = le-leb count digit_limit ((fifteen_digits t).1 (omega (arith, h.digits))) in
             rw (o, n) (reach ∙ le-leb p.magnitude power_limit l)

@@ -4,7 +4,7 @@ use Rattle.std.specs.Float.{binary64}
 use Rattle.std.specs.Float.Ieee.{of_int, mul, div, neg}
 use Rattle.decimal.specs.Digits.{value}
 use Rattle.format.specs.Syntax.{Sign, unsigned, plus, minus, null, bool, int, float, string}
-use Rattle.format.specs.Limits.{isSpecial}
+use Rattle.format.specs.Limits.{is_special}
 use Rattle.format.specs.Meaning.{ScalarMeaning}
 use Rattle.floats.specs.Parts.{Parts, parts_of, digits, exponent_of}
 
@@ -37,7 +37,7 @@ in_reach k = leb (nat_abs k) power_limit
 
 -- "A d other than INF, -INF and NAN gives a 64-bit float when the digits before any exponent … are at most 15 … and its power of ten … lies from −22 to 22."
 unfoldable pub is_real : (text : List ℕ) → Bool
-is_real t = not (isSpecial t) && leb (length (significant (digits (parts_of t)))) digit_limit && in_reach (power_of (parts_of t))
+is_real t = not (is_special t) && leb (length (significant (digits (parts_of t)))) digit_limit && in_reach (power_of (parts_of t))
 
 -- ---- the float
 

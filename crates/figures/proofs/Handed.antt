@@ -7,7 +7,7 @@ use lib.Dec.{lit<}
 use lib.ListN.{length}
 use Rattle.format.specs.Kind.{Kind, tag}
 use Rattle.format.specs.Tree.{leaf, ref, branch, nodes}
-use Rattle.format.specs.Syntax.{int_key, string_key, null, bool, int, float, string, array, object, RefKind, objectRef, variableRef, ref_kind, Value, print}
+use Rattle.format.specs.Syntax.{int_key, string_key, null, bool, int, float, string, array, object, RefKind, object_ref, variable_ref, ref_kind, Value, print}
 use Rattle.format.specs.Fits.{Valid}
 use Rattle.format.specs.Answer.{Answer, ok, refused}
 use Rattle.format.specs.Read.{read}
@@ -66,8 +66,8 @@ module _ (v : Value) (s t rest : List ℕ) (e : t ≡ flat (table_of v) ++ rest)
 
     -- an R has no ordinal
     reference_said : (k : RefKind) → Taking rows k i → row.tag ≡ tag (ref_kind k) → figure_said s t (nodes v) i ≡ neither
-    reference_said objectRef o g = numbered Kind.objectReference o g
-    reference_said variableRef o g = unnumbered o
+    reference_said object_ref o g = numbered Kind.object_reference o g
+    reference_said variable_ref o g = unnumbered o
 
   stands_said : (x : Standing) → Stands s rows i (nodes v) x → figure_said s t (nodes v) i ≡ standing_figure x
   stands_said (key (int_key n)) h = unnumbered h.0 h.1.1

@@ -12,7 +12,7 @@ use Rattle.decimal.proofs.Decide.{Test, passed, failed, test, T_of, T_true, and_
 use Rattle.format.specs.Bytes.{is_empty}
 use Rattle.format.specs.Kind.{Kind, kinds, key_kinds}
 use Rattle.format.specs.Tree.{leaf, ref, branch, none, pair, count, nodes, nodes_in}
-use Rattle.format.specs.Syntax.{Spelling, Key, Scalar, Container, Head, RefKind, objectRef, variableRef, ref_kind, Reference, Value, Values}
+use Rattle.format.specs.Syntax.{Spelling, Key, Scalar, Container, Head, RefKind, object_ref, variable_ref, ref_kind, Reference, Value, Values}
 use Rattle.format.specs.Keys.{has_key}
 use Rattle.format.specs.Limits.{source_limit, depth_limit, Terms, Seen, unseen, see_branch, see}
 use Rattle.format.specs.Fits.{Backward, BackwardIn, Shallow, ShallowIn}
@@ -132,8 +132,8 @@ module _ (set : Setting) where
   ref-body : (inner : Inner) (n : Reference) (k : RefKind) → n.kind ≡ k → (l : ℕ) (seen : Seen) (before : ℕ) (s r : List ℕ) → 1 ≤ n.named → n.named ≤ seen
       → set.form.named_text l s ≡ ok ((n.spelling, n.named), r) → read_body set inner (ref_kind k) l seen before s ≡ ok (ref n, r)
   unfolding read_body read_reference
-  ref-body inner n objectRef q l seen before s r a b e = rw (e, lt-ltb 0 n.named a, le-leb n.named seen b, ← q)
-  ref-body inner n variableRef q l seen before s r a b e = rw (e, lt-ltb 0 n.named a, le-leb n.named seen b, ← q)
+  ref-body inner n object_ref q l seen before s r a b e = rw (e, lt-ltb 0 n.named a, le-leb n.named seen b, ← q)
+  ref-body inner n variable_ref q l seen before s r a b e = rw (e, lt-ltb 0 n.named a, le-leb n.named seen b, ← q)
 
   branch-body : (inner : Inner) (h : Head) (ps : Values) (a : Bool) → is_array h.container ≡ a → (l : ℕ) (seen : Seen) (before : ℕ) (s s₁ s₂ r : List ℕ)
       → set.form.head_text a l s ≡ ok ((h.container, (h.spelling, count ps)), s₁)
@@ -381,8 +381,8 @@ module _ (set : Setting) (steady : Steady set.form) where
     body_got Kind.string l seen before s s₀ q m h e = scalar_got Kind.string string l seen before s s₀ q m h e
     body_got Kind.array l seen before s s₀ q m h e = branch_got true l seen before s s₀ q m h e
     body_got Kind.object l seen before s s₀ q m h e = branch_got false l seen before s s₀ q m h e
-    body_got Kind.objectReference l seen before s s₀ q m h e = ref_got objectRef l seen before s s₀ q m h e
-    body_got Kind.variableReference l seen before s s₀ q m h e = ref_got variableRef l seen before s s₀ q m h e
+    body_got Kind.object_reference l seen before s s₀ q m h e = ref_got object_ref l seen before s s₀ q m h e
+    body_got Kind.variable_reference l seen before s s₀ q m h e = ref_got variable_ref l seen before s s₀ q m h e
 
   pub value_got : (d : ℕ) (seen : Seen) (before : ℕ) (s : List ℕ) (q : Value × List ℕ) → read_value set d seen before s ≡ ok q → Got d seen before s q
   value_got zero seen before s q e =

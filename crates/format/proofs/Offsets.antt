@@ -9,7 +9,7 @@ use Rattle.decimal.proofs.Decide.{below, above, order}
 use Rattle.format.specs.Bytes.{bytes}
 use Rattle.format.specs.Kind.{Kind, tag, has_text}
 use Rattle.format.specs.Tree.{leaf, ref, branch, none, pair, count, nodes, nodes_in, ordinals}
-use Rattle.format.specs.Syntax.{int_key, string_key, null, bool, int, float, string, array, object, unsigned, RefKind, objectRef, variableRef, ref_kind, Key}
+use Rattle.format.specs.Syntax.{int_key, string_key, null, bool, int, float, string, array, object, unsigned, RefKind, object_ref, variable_ref, ref_kind, Key}
 use Rattle.format.specs.Syntax.{Scalar, Container, Value, Values, own, write, print}
 use Rattle.format.specs.Canonical.{shortest}
 use Rattle.format.specs.Table.{Node, single, key_node, scalar_node, branch_node, target_of, table_of, value_offset}
@@ -41,8 +41,8 @@ module _ (source : List ℕ) (ns rows : List Node) (to : ℕ → ℕ) where
   scalar-same (string t) o i n b e p q = text_same i _ _ p q
 
   reference-no-text : (k : RefKind) → T (has_text (tag (ref_kind k))) → ⊥
-  reference-no-text objectRef h = h
-  reference-no-text variableRef h = h
+  reference-no-text object_ref h = h
+  reference-no-text variable_ref h = h
 
   container-same : (c : Container) (o i n pairs end : ℕ) (b : List ℕ) → node_at rows i ≡ branch_node o n c pairs end → PlacedContainer source ns i b c
       → PlacedContainer source rows i b c → SameOffset i

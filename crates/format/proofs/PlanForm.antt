@@ -26,8 +26,8 @@ plan-tagged Kind.float at = refl
 plan-tagged Kind.string at = refl
 plan-tagged Kind.array at = refl
 plan-tagged Kind.object at = refl
-plan-tagged Kind.objectReference at = refl
-plan-tagged Kind.variableReference at = refl
+plan-tagged Kind.object_reference at = refl
+plan-tagged Kind.variable_reference at = refl
 
 -- a text that goes on behind another
 follow : {A B : Type 0} {l m : ℕ} (a b : Answer A) (f g : A → Answer B) → AtTag l m a b → ((x : A) → AtTag l m (f x) (g x)) → AtTag l m (a >>= f) (b >>= g)
@@ -100,8 +100,8 @@ module _ (l m : ℕ) where
   scalar-steady Kind.string s = follow _ _ _ _ (quoted_steady (bytes "\";") s) (λ a. done _)
   scalar-steady Kind.array s = no-scalar
   scalar-steady Kind.object s = no-scalar
-  scalar-steady Kind.objectReference s = no-scalar
-  scalar-steady Kind.variableReference s = no-scalar
+  scalar-steady Kind.object_reference s = no-scalar
+  scalar-steady Kind.variable_reference s = no-scalar
 
   count-steady : (s : List ℕ) → AtTag l m (count_text l s) (count_text m s)
   unfolding count_text

@@ -10,7 +10,7 @@ use Rattle.decimal.proofs.Decide.{Test, passed, failed, test}
 use Rattle.format.specs.Bytes.{is_empty}
 use Rattle.format.specs.Kind.{Kind, kinds, key_kinds}
 use Rattle.format.specs.Tree.{nodes}
-use Rattle.format.specs.Syntax.{Key, RefKind, objectRef, variableRef}
+use Rattle.format.specs.Syntax.{Key, RefKind, object_ref, variable_ref}
 use Rattle.format.specs.Keys.{has_key}
 use Rattle.format.specs.Limits.{source_limit, depth_limit, Terms, Seen, unseen, see_branch, see}
 use Rattle.format.specs.Answer.{Answer, ok, refused, ◌>>=◌, require}
@@ -118,8 +118,8 @@ module _ (set : Setting) (steady : Steady set.form) where
         body_proper Kind.string seen before s = read_scalar_proper Kind.string s
         body_proper Kind.array seen before s = branch_proper true seen before s
         body_proper Kind.object seen before s = branch_proper false seen before s
-        body_proper Kind.objectReference seen before s = reference_proper objectRef seen s
-        body_proper Kind.variableReference seen before s = reference_proper variableRef seen s
+        body_proper Kind.object_reference seen before s = reference_proper object_ref seen s
+        body_proper Kind.variable_reference seen before s = reference_proper variable_ref seen s
 
     value_proper : (d : ℕ) (seen : Seen) (before : ℕ) (s : List ℕ) → Ok (read_value set d seen before s)
     value_proper zero seen before [] = two set.size (position set []) (omega arith)

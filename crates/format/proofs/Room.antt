@@ -87,8 +87,8 @@ module _ (form : Form) (size : ℕ) (c d : Terms) (le : Roomier c d) where
     body-agree Kind.string l seen before s = agree _
     body-agree Kind.array l seen before s = branch-agree true l seen before s
     body-agree Kind.object l seen before s = branch-agree false l seen before s
-    body-agree Kind.objectReference l seen before s = agree _
-    body-agree Kind.variableReference l seen before s = agree _
+    body-agree Kind.object_reference l seen before s = agree _
+    body-agree Kind.variable_reference l seen before s = agree _
 
   value-agree : (levels : ℕ) (seen : Seen) (before : ℕ) (s : List ℕ) → Agree (read_value lo levels seen before s) (read_value hi levels seen before s)
   value-agree zero seen before s = agree _

@@ -10,7 +10,7 @@ use Rattle.format.specs.Kind.{Kind, tag}
 use Rattle.format.specs.Tree.{leaf, ref, branch, none, pair, TreePath, count, nodes, nodes_in, only, one, ordinals, ordinals_in, paths, paths_in, map_tree}
 use Rattle.format.specs.Tree.{map_pairs}
 use Rattle.format.specs.Syntax.{int_key, string_key, null, bool, int, float, string, array, object, map_container, Literal, Quoted, Key, Scalar, Container}
-use Rattle.format.specs.Syntax.{RefKind, objectRef, variableRef, ref_kind, Reference, Value, Values, own, print}
+use Rattle.format.specs.Syntax.{RefKind, object_ref, variable_ref, ref_kind, Reference, Value, Values, own, print}
 use Rattle.format.specs.Canonical.{shortest}
 use Rattle.format.specs.Keys.{integer, key_meaning}
 use Rattle.format.specs.Fits.{IntFits, KeyFits, ScalarFits, Sound, SoundIn, Valid}
@@ -149,8 +149,8 @@ module _ (source : List ℕ) (rows : List Node) (to : ℕ → ℕ) where
   module _ (env : List TreePath) where
     taking : (k : RefKind) (i n : ℕ) → 1 ≤ n → ordinal_at rows to i ≡ taken (own (record { kind = k; spelling = shortest; named = 0 })) n
         → Taking rows k i
-    taking objectRef i n h e = omega arith
-    taking variableRef i n h e = e
+    taking object_ref i n h e = omega arith
+    taking variable_ref i n h e = e
 
     reference-shown : (r : Reference) (i n : ℕ) → node_at rows i ≡ ref_node (to r.named) i n r → 1 ≤ n → Resolved rows to env r
         → ShowsReference rows i (reference_meaning env r)

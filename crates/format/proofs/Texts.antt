@@ -225,8 +225,8 @@ scalar_text-ok Kind.string l s q e =
     subst (GotScalar Kind.string s) (ok_same a.2) (record { text = ap {B = List ℕ} (λ x. 115 ∷ x) g.text; fits = g.fits })
 scalar_text-ok Kind.array l s q e = absurd (not_both e)
 scalar_text-ok Kind.object l s q e = absurd (not_both e)
-scalar_text-ok Kind.objectReference l s q e = absurd (not_both e)
-scalar_text-ok Kind.variableReference l s q e = absurd (not_both e)
+scalar_text-ok Kind.object_reference l s q e = absurd (not_both e)
+scalar_text-ok Kind.variable_reference l s q e = absurd (not_both e)
 
 -- a count of pairs up to the opening brace
 pub record GotCount (s : List ℕ) (q : (Spelling × ℕ) × List ℕ) : Type 0 where

@@ -4,10 +4,10 @@ use Rattle.format.specs.Bytes.{byte}
 
 -- "Taken: the kinds N, b, i, d, s, a, O, r and R."
 pub data Kind : Type 0 where
-  null bool int float string array object objectReference variableReference : Kind
+  null bool int float string array object object_reference variable_reference : Kind
 
 abbrev pub kinds : List Kind
-kinds = null ∷ bool ∷ int ∷ float ∷ string ∷ array ∷ object ∷ objectReference ∷ variableReference ∷ []
+kinds = null ∷ bool ∷ int ∷ float ∷ string ∷ array ∷ object ∷ object_reference ∷ variable_reference ∷ []
 
 abbrev pub tag : Kind → ℕ
 tag null = byte "N"
@@ -17,8 +17,8 @@ tag float = byte "d"
 tag string = byte "s"
 tag array = byte "a"
 tag object = byte "O"
-tag objectReference = byte "r"
-tag variableReference = byte "R"
+tag object_reference = byte "r"
+tag variable_reference = byte "R"
 
 -- "plain value (N, b, i, d or s)"
 abbrev pub scalar_kinds : List Kind
@@ -31,7 +31,7 @@ is_tag_of (k ∷ more) b = eqb b (tag k) || is_tag_of more b
 
 -- "Each value takes the next number … Two things take none: keys, and every R. An r does take one."
 abbrev pub ordinal_kinds : List Kind
-ordinal_kinds = null ∷ bool ∷ int ∷ float ∷ string ∷ array ∷ object ∷ objectReference ∷ []
+ordinal_kinds = null ∷ bool ∷ int ∷ float ∷ string ∷ array ∷ object ∷ object_reference ∷ []
 
 abbrev pub has_ordinal : ℕ → Bool
 has_ordinal b = is_tag_of ordinal_kinds b

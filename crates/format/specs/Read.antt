@@ -5,7 +5,7 @@ use Rattle.decimal.specs.Digits.{digits_of, after_digits, value, decimal}
 use Rattle.format.specs.Bytes.{byte, bytes, is_empty, same_bytes}
 use Rattle.format.specs.Kind.{Kind, kinds, tag, key_kinds}
 use Rattle.format.specs.Tree.{leaf, ref, branch, none, pair, nodes}
-use Rattle.format.specs.Syntax.{int_key, string_key, null, bool, int, float, string, array, object, objectRef, variableRef}
+use Rattle.format.specs.Syntax.{int_key, string_key, null, bool, int, float, string, array, object, object_ref, variable_ref}
 use Rattle.format.specs.Syntax.{Spelling, Literal, Quoted, Key, Scalar, Container, RefKind, Value, Values}
 use Rattle.format.specs.Limits.{number_limit, source_limit, depth_limit, integer_limit, Terms, sign_of, is_float, Seen, unseen, see_branch, see}
 use Rattle.format.specs.Keys.{has_key}
@@ -89,8 +89,8 @@ scalar_text Kind.float l s = float_text l s >>= λ (t, s₁). ok (float t, s₁)
 scalar_text Kind.string l s = quoted_text l (bytes "\";") s >>= λ (q, s₁). ok (string q, s₁)
 scalar_text Kind.array l s = refused 3 l
 scalar_text Kind.object l s = refused 3 l
-scalar_text Kind.objectReference l s = refused 3 l
-scalar_text Kind.variableReference l s = refused 3 l
+scalar_text Kind.object_reference l s = refused 3 l
+scalar_text Kind.variable_reference l s = refused 3 l
 
 -- a count of pairs and the opening brace
 unfoldable pub count_text : Reader (Spelling × ℕ)
@@ -225,8 +225,8 @@ module _ (set : Setting) where
   read_body inner Kind.string l seen before s = read_scalar Kind.string l s
   read_body inner Kind.array l seen before s = read_branch inner true l seen before s
   read_body inner Kind.object l seen before s = read_branch inner false l seen before s
-  read_body inner Kind.objectReference l seen before s = read_reference objectRef l seen s
-  read_body inner Kind.variableReference l seen before s = read_reference variableRef l seen s
+  read_body inner Kind.object_reference l seen before s = read_reference object_ref l seen s
+  read_body inner Kind.variable_reference l seen before s = read_reference variable_ref l seen s
 
   -- "At a letter: 3 or 4, then 8, then 7, then the text from left to right": a value, so many levels being left
   abbrev pub read_value : (levels : ℕ) → Inner

@@ -4,7 +4,7 @@ use Rattle.decimal.specs.Complement.{is_negative, magnitude}
 use Rattle.format.specs.Bytes.{byte}
 use Rattle.format.specs.Kind.{Kind, tag}
 use Rattle.format.specs.Tree.{Pairs, none, pair, leaf, ref, branch, TreePath, count, nodes, nodes_in, one}
-use Rattle.format.specs.Syntax.{int_key, string_key, null, bool, int, float, string, array, object, RefKind, objectRef, variableRef, ref_kind}
+use Rattle.format.specs.Syntax.{int_key, string_key, null, bool, int, float, string, array, object, RefKind, object_ref, variable_ref, ref_kind}
 use Rattle.format.specs.Syntax.{Quoted, Key, Scalar, Container, Value, Values, write_number, write_key, write_container, write}
 use Rattle.format.specs.Keys.{KeyMeaning}
 use Rattle.format.specs.Meaning.{Meaning, ScalarMeaning, HeadMeaning, ReferenceMeaning, meaning}
@@ -64,8 +64,8 @@ module _ (rows : List Node) where
   Pattern i n = ((node_at i).content ≡ word n) × (integer_of (node_at i).content ≡ n)
 
   abbrev pub Taking : RefKind → ℕ → Type 0
-  Taking objectRef i = WithOrdinal i
-  Taking variableRef i = WithoutOrdinal i
+  Taking object_ref i = WithOrdinal i
+  Taking variable_ref i = WithoutOrdinal i
 
   -- word 4 is "index of the node named": the node at the path named, and it carries the number in word 2
   pub record ShowsReference (i : ℕ) (r : ReferenceMeaning) : Type 0 where

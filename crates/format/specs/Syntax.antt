@@ -73,7 +73,7 @@ pub record Head : Type 0 where
 
 -- an object reference is an r, a variable reference an R
 pub data RefKind : Type 0 where
-  objectRef variableRef : RefKind
+  object_ref variable_ref : RefKind
 
 -- a reference: its kind, the ordinal that it names, and how that is spelled
 pub record Reference : Type 0 where
@@ -88,8 +88,8 @@ abbrev pub Values : Type 0
 Values = Pairs Key Scalar Head Reference
 
 abbrev pub ref_kind : RefKind → Kind
-ref_kind objectRef = Kind.objectReference
-ref_kind variableRef = Kind.variableReference
+ref_kind object_ref = Kind.object_reference
+ref_kind variable_ref = Kind.variable_reference
 
 -- whether a reference takes an ordinal of its own
 abbrev pub own : Reference → Bool

@@ -11,7 +11,7 @@ use borrow.Author.Tests.{ltb-true, ltb-false}
 use Rattle.format.specs.Bytes.{byte}
 use Rattle.format.specs.Kind.{Kind, tag}
 use Rattle.format.specs.Tree.{leaf, ref, branch, none, pair, count, nodes, TreePath, nodes_in, ordinals}
-use Rattle.format.specs.Syntax.{int_key, string_key, null, bool, int, float, string, array, object, RefKind, objectRef, variableRef, Key, Scalar, Container}
+use Rattle.format.specs.Syntax.{int_key, string_key, null, bool, int, float, string, array, object, RefKind, object_ref, variable_ref, Key, Scalar, Container}
 use Rattle.format.specs.Syntax.{ref_kind, Value, Values, own, write, write_pairs, print}
 use Rattle.format.specs.Limits.{number_limit, depth_limit}
 use Rattle.format.specs.Fits.{Sound, SoundIn, Limited, LimitedIn, Shallow, ShallowIn, Valid}
@@ -155,8 +155,8 @@ no-scalar o i n (float t) e = omega arith
 no-scalar o i n (string q) e = omega arith
 
 no-reference : (k : RefKind) → tag (ref_kind k) ≡ tag Kind.array → ⊥
-no-reference objectRef e = omega arith
-no-reference variableRef e = omega arith
+no-reference object_ref e = omega arith
+no-reference variable_ref e = omega arith
 
 container-at : (c : Container) (o n pairs end : ℕ) (ps : Values) → (branch_node o n c pairs end).tag ≡ tag Kind.array
     → (s : Site) × ((require (is_array c) 11 0 >>= λ u. ok (record { path = []; pairs = ps })) ≡ ok s)

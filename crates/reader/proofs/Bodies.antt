@@ -3,8 +3,8 @@ use Rattle.std.proofs.Common.{◌≡◌, ℕ, suc, ◌+◌, Bool, true, false, �
 use Rattle.format.specs.Bytes.{bytes}
 use Rattle.format.specs.Kind.{Kind, tag}
 use Rattle.format.specs.Tree.{leaf, ref, branch}
-use Rattle.format.specs.Syntax.{null, bool, int, float, string, int_key, string_key, array, object, Spelling, Scalar, Key, Container, RefKind, objectRef}
-use Rattle.format.specs.Syntax.{variableRef, ref_kind, Value, write_number}
+use Rattle.format.specs.Syntax.{null, bool, int, float, string, int_key, string_key, array, object, Spelling, Scalar, Key, Container, RefKind, object_ref}
+use Rattle.format.specs.Syntax.{variable_ref, ref_kind, Value, write_number}
 use Rattle.format.specs.Limits.{Seen, see_branch}
 use Rattle.format.specs.Answer.{Answer, ok, ◌>>=◌, require}
 use Rattle.format.specs.Read.{expect, int_text, quoted_text, bool_text, float_text, scalar_text, key_text, Setting, is_array, Inner, read_pairs, read_branch}
@@ -36,8 +36,8 @@ scalar-kind Kind.float l s q e = ap (λ (x : Scalar × List ℕ). scalar_kind x.
 scalar-kind Kind.string l s q e = ap (λ (x : Scalar × List ℕ). scalar_kind x.0) (sym (ok_same (bind_ok (quoted_text l (bytes "\";") s) _ q e).2))
 scalar-kind Kind.array l s q e = absurd (not_both e)
 scalar-kind Kind.object l s q e = absurd (not_both e)
-scalar-kind Kind.objectReference l s q e = absurd (not_both e)
-scalar-kind Kind.variableReference l s q e = absurd (not_both e)
+scalar-kind Kind.object_reference l s q e = absurd (not_both e)
+scalar-kind Kind.variable_reference l s q e = absurd (not_both e)
 
 scalar-tag : (b : ℕ) → scalar_tag b → tag (kind_for b) ≡ b
 unfolding kind_for
@@ -105,7 +105,7 @@ head-node b o n end next (object q) link t e =
 -- ---- references
 
 unfoldable pub ref_for : ℕ → RefKind
-ref_for b = elim (eqb b (tag Kind.objectReference)) [ true ↦ objectRef | false ↦ variableRef ]
+ref_for b = elim (eqb b (tag Kind.object_reference)) [ true ↦ object_ref | false ↦ variable_ref ]
 
 -- what follows the ordinal that a reference names
 abbrev pub resolved : RefKind → (l : ℕ) → Seen → (Spelling × ℕ) × List ℕ → Answer (Value × List ℕ)

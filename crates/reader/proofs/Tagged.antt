@@ -130,7 +130,7 @@ abbrev pub container_arm : List Kind
 container_arm = Kind.object ∷ Kind.array ∷ []
 
 abbrev pub reference_arm : List Kind
-reference_arm = Kind.variableReference ∷ Kind.objectReference ∷ []
+reference_arm = Kind.variable_reference ∷ Kind.object_reference ∷ []
 
 pub chosen : (js ks : List Kind) (b : ℕ) → T (all ks (is_tag_of js)) → Arm ks b → OneOf js b
 chosen js ks b w a = one_of js b (sym (arm_is js ks b w a))

@@ -6,7 +6,7 @@ use Rattle.scanner.specs.Scans.{Told, literal_told, quoted_told}
 
 -- the first of some kinds with this tag
 abbrev pub among : List Kind → ℕ → Kind
-among [] b = Kind.variableReference
+among [] b = Kind.variable_reference
 among (k ∷ ks) b = elim (tag k == b) [ true ↦ k | false ↦ among ks b ]
 
 -- the kind of a tag that is one of the nine
@@ -31,7 +31,7 @@ abbrev pub container_tag : ℕ → Type 0
 container_tag b = OneOf container_kinds b
 
 abbrev pub reference_kinds : List Kind
-reference_kinds = Kind.objectReference ∷ Kind.variableReference ∷ []
+reference_kinds = Kind.object_reference ∷ Kind.variable_reference ∷ []
 
 abbrev pub reference_tag : ℕ → Type 0
 reference_tag b = OneOf reference_kinds b

@@ -14,7 +14,7 @@ use Rattle.decimal.proofs.Complements.{InBits, sign-back, magnitude-back}
 use Rattle.format.specs.Bytes.{byte}
 use Rattle.format.specs.Kind.{Kind, tag}
 use Rattle.format.specs.Syntax.{null, bool, int, float, string, array, object, Spelling, Sign, unsigned, plus, minus, Literal, Quoted, Container, RefKind}
-use Rattle.format.specs.Syntax.{objectRef, variableRef, ref_kind, Reference, write_number, write_sign}
+use Rattle.format.specs.Syntax.{object_ref, variable_ref, ref_kind, Reference, write_number, write_sign}
 use Rattle.format.specs.Keys.{signed, integer}
 use Rattle.format.specs.Limits.{number_limit, integer_limit}
 use Rattle.format.specs.Table.{word}
@@ -164,8 +164,8 @@ module _ (s : List ℕ) (at : ℕ) (x : Text) where
   respelled-reference k w n st = by-tag (tag (ref_kind k)) _ _ st.written (referred k ∙ named)
     where
       referred : (k : RefKind) → shortest_by (tag (ref_kind k)) s at x ≡ numbered_text s at x.content (x.next - 1) x.next
-      referred objectRef = refl
-      referred variableRef = refl
+      referred object_ref = refl
+      referred variable_ref = refl
 
       named : numbered_text s at x.content (x.next - 1) x.next ≡ write_token (canonical_token (reference (record { kind = k; spelling = w; named = n }))) []
       named =
@@ -345,11 +345,11 @@ module _ (s : List ℕ) (at : ℕ) (x : Text) where
       (λ i. absurd (omega (arith, i))) (λ i. object-bounds q w n st)
 
   reference-bounds : (k : RefKind) (w : Spelling) (n : ℕ) → Stands s at (reference (record { kind = k; spelling = w; named = n })) x → Bounds s at x
-  reference-bounds objectRef w n st =
-      plain (reference (record { kind = objectRef; spelling = w; named = n })) st 114 _ st.written (omega arith) (λ i. omega (arith, i))
+  reference-bounds object_ref w n st =
+      plain (reference (record { kind = object_ref; spelling = w; named = n })) st 114 _ st.written (omega arith) (λ i. omega (arith, i))
       (λ i. omega (arith, i)) (λ i. omega (arith, i))
-  reference-bounds variableRef w n st =
-      plain (reference (record { kind = variableRef; spelling = w; named = n })) st 82 _ st.written (omega arith) (λ i. omega (arith, i))
+  reference-bounds variable_ref w n st =
+      plain (reference (record { kind = variable_ref; spelling = w; named = n })) st 82 _ st.written (omega arith) (λ i. omega (arith, i))
       (λ i. omega (arith, i)) (λ i. omega (arith, i))
 
   pub bounds : (t : Token) → Stands s at t x → Bounds s at x

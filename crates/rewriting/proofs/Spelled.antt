@@ -56,7 +56,7 @@ module _ (s : List ℕ) (at : ℕ) (x : Text) where
 
 -- ---- renumbered
 
-referring : (b : ℕ) → ReferenceTag b → is_tag_of (Kind.objectReference ∷ Kind.variableReference ∷ []) b ≡ true
+referring : (b : ℕ) → ReferenceTag b → is_tag_of (Kind.object_reference ∷ Kind.variable_reference ∷ []) b ≡ true
 referring b o = ⊎_elim (λ i. rw i) (λ i. rw i) o
 
 module _ (m : Renumbering) (n : ℕ) where
@@ -82,7 +82,7 @@ module _ (m : Renumbering) (n : ℕ) where
   from_on e = leb→le m.from n (and_right (not (eqb m.down m.up)) (leb m.from n) (T_of e))
 
 module _ (m : Renumbering) (s : List ℕ) (at : ℕ) (x : Text) where
-  renumbered_as : (a b : Bool) → is_tag_of (Kind.objectReference ∷ Kind.variableReference ∷ []) (get_or s at 0) ≡ a → is_renumbered m x.content ≡ b
+  renumbered_as : (a b : Bool) → is_tag_of (Kind.object_reference ∷ Kind.variable_reference ∷ []) (get_or s at 0) ≡ a → is_renumbered m x.content ≡ b
       → renumbered_text m s at x ≡ renumbered_if (a && b) m s at x
   unfolding renumbered_text
   renumbered_as a b e f = ap₂ (λ (p q : Bool). renumbered_if (p && q) m s at x) e f

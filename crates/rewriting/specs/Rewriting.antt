@@ -41,7 +41,7 @@ renumbered_if false m s at x = slice at x.next s
 -- a reference that moves, by its new number; all else copied
 unfoldable pub renumbered_text : Renumbering → List ℕ → (at : ℕ) → Text → List ℕ
 renumbered_text m s at x =
-    renumbered_if (is_tag_of (Kind.objectReference ∷ Kind.variableReference ∷ []) (get_or s at 0) && is_renumbered m x.content) m s at x
+    renumbered_if (is_tag_of (Kind.object_reference ∷ Kind.variable_reference ∷ []) (get_or s at 0) && is_renumbered m x.content) m s at x
 
 -- told the tag that the table has for its node; neither change asks for it yet
 abbrev pub respelled_text : Change → (tag : ℕ) → List ℕ → (at : ℕ) → Text → List ℕ

@@ -35,7 +35,7 @@ shortest_by b s at x = elim (eqb b (tag Kind.int)) [
       | true ↦ numbered_text s at x.link (x.next - 2) x.next
       | false ↦ elim (eqb b (tag Kind.object)) [
         | true ↦ object_head_text s at x
-        | false ↦ elim (eqb b (tag Kind.objectReference) || eqb b (tag Kind.variableReference)) [
+        | false ↦ elim (eqb b (tag Kind.object_reference) || eqb b (tag Kind.variable_reference)) [
           | true ↦ numbered_text s at x.content (x.next - 1) x.next
           | false ↦ slice at x.next s
         ]

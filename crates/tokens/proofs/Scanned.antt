@@ -11,7 +11,7 @@ use lib.Seq.{drop-cons}
 use borrow.Author.Tests.{ne_eqb}
 use Rattle.format.specs.Bytes.{byte}
 use Rattle.format.specs.Kind.{Kind, tag}
-use Rattle.format.specs.Syntax.{objectRef, variableRef}
+use Rattle.format.specs.Syntax.{object_ref, variable_ref}
 use Rattle.format.specs.Read.{named_text, head_text}
 use Rattle.scanner.specs.declared.Scan.{Scan}
 use Rattle.scanner.specs.Scans.{Scans, scalar_behind, tell, value_told, scalar_told, head_told}
@@ -45,16 +45,16 @@ module _ (s : List ℕ) (at : ℕ) where
       unfolding token_behind
       token-object i f = behind r (scans-map opening_of (λ l s. rw i) (λ x next. refl) f)
 
-      pub token-reference : (b ≡ tag Kind.variableReference) ⊎ (b ≡ tag Kind.objectReference) → Scans named_text value_told s (at + 1) r
+      pub token-reference : (b ≡ tag Kind.variable_reference) ⊎ (b ≡ tag Kind.object_reference) → Scans named_text value_told s (at + 1) r
           → Scans read_token (token_told at) s at r
       unfolding token_behind
       token-reference o f =
           behind r
-          (⊎_elim (λ i. scans-map (reference_of variableRef) (λ l s. rw i) (λ x next. refl) f)
-          (λ i. scans-map (reference_of objectRef) (λ l s. rw i) (λ x next. refl) f) o)
+          (⊎_elim (λ i. scans-map (reference_of variable_ref) (λ l s. rw i) (λ x next. refl) f)
+          (λ i. scans-map (reference_of object_ref) (λ l s. rw i) (λ x next. refl) f) o)
 
       pub token-scalar : (b ≡ byte "}" → ⊥) → (b ≡ tag Kind.array → ⊥) → (b ≡ tag Kind.object → ⊥)
-          → ((b ≡ tag Kind.variableReference) ⊎ (b ≡ tag Kind.objectReference) → ⊥)
+          → ((b ≡ tag Kind.variable_reference) ⊎ (b ≡ tag Kind.object_reference) → ⊥)
           → Scans (scalar_behind b) (scalar_told (at + 1)) s (at + 1) r → Scans read_token (token_told at) s at r
       unfolding token_behind
       token-scalar c a o p f =

@@ -4,7 +4,7 @@ use native.Mathlib.Omega.{arith}
 use mathlib.Core.Path.{◌≡◌, refl}
 use mathlib.Core.Logic.{inl, inr, ⊎_elim}
 use mathlib.Core.List.{List, ◌∷◌}
-use Rattle.format.specs.Syntax.{null, bool, int, float, string, array, object, Spelling, Scalar, Container, RefKind, objectRef, variableRef}
+use Rattle.format.specs.Syntax.{null, bool, int, float, string, array, object, Spelling, Scalar, Container, RefKind, object_ref, variable_ref}
 use Rattle.tokens.specs.Tokens.{Token, scalar, reference, opening, closing, write_token, closes_of, opens_of, closes, opens}
 use Rattle.tokens.specs.Tokens.{ReferenceTag}
 
@@ -91,8 +91,8 @@ opening-tagged (object q) w n rest = record {
 }
 
 reference-tagged : (d : RefKind) (w : Spelling) (n : ℕ) (rest : List ℕ) → Tagged (reference (record { kind = d; spelling = w; named = n })) rest
-reference-tagged objectRef w n rest = record { byte = 114; behind = _; is = refl; opens = refl; closes = refl; refers = λ o. tt; referred = λ e. inr refl }
-reference-tagged variableRef w n rest = record { byte = 82; behind = _; is = refl; opens = refl; closes = refl; refers = λ o. tt; referred = λ e. inl refl }
+reference-tagged object_ref w n rest = record { byte = 114; behind = _; is = refl; opens = refl; closes = refl; refers = λ o. tt; referred = λ e. inr refl }
+reference-tagged variable_ref w n rest = record { byte = 82; behind = _; is = refl; opens = refl; closes = refl; refers = λ o. tt; referred = λ e. inl refl }
 
 pub tagged : (t : Token) (rest : List ℕ) → Tagged t rest
 tagged (scalar x) rest = scalar-tagged x rest

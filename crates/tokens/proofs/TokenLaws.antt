@@ -7,8 +7,8 @@ use lib.ListN.{length, length-append}
 use Rattle.format.specs.Bytes.{byte}
 use Rattle.format.specs.Kind.{tag}
 use Rattle.format.specs.Tree.{leaf, ref, branch, none, pair, count}
-use Rattle.format.specs.Syntax.{int_key, string_key, null, bool, int, float, string, array, object, Key, Scalar, Container, Spelling, RefKind, objectRef}
-use Rattle.format.specs.Syntax.{variableRef, ref_kind, Value, Values, write_number, write_key, write_container, write, write_pairs}
+use Rattle.format.specs.Syntax.{int_key, string_key, null, bool, int, float, string, array, object, Key, Scalar, Container, Spelling, RefKind, object_ref}
+use Rattle.format.specs.Syntax.{variable_ref, ref_kind, Value, Values, write_number, write_key, write_container, write, write_pairs}
 use Rattle.format.specs.Limits.{number_limit}
 use Rattle.format.specs.Fits.{KeyFits, ScalarFits, Sound, SoundIn, Limited, LimitedIn}
 use Rattle.format.specs.Answer.{ok}
@@ -142,8 +142,8 @@ opening-printed l (object q) w n r f = rw (object-printed l q w n r f.0 f.1)
 reference-printed : (l : ℕ) (k : RefKind) (w : Spelling) (n : ℕ) (r : List ℕ) → n ≤ number_limit
     → read_token l (write_token (reference (record { kind = k; spelling = w; named = n })) r) ≡ ok (reference (record { kind = k; spelling = w; named = n }), r)
 unfolding read_token token_behind
-reference-printed l objectRef w n r f = rw (named-printed l w n r f)
-reference-printed l variableRef w n r f = rw (named-printed l w n r f)
+reference-printed l object_ref w n r f = rw (named-printed l w n r f)
+reference-printed l variable_ref w n r f = rw (named-printed l w n r f)
 
 -- A TOKEN THAT FITS IS READ BACK
 pub token-printed : (l : ℕ) (t : Token) (r : List ℕ) → TokenFits t → read_token l (write_token t r) ≡ ok (t, r)

@@ -6,7 +6,7 @@ use mathlib.Core.List.{List, [], ◌∷◌}
 use lib.Dec.{eqb}
 use borrow.Author.Tests.{eqb-true}
 use Rattle.format.specs.Kind.{Kind, scalar_kinds, tag}
-use Rattle.format.specs.Syntax.{Scalar, Spelling, Container, RefKind, objectRef, variableRef, ref_kind, write_scalar}
+use Rattle.format.specs.Syntax.{Scalar, Spelling, Container, RefKind, object_ref, variable_ref, ref_kind, write_scalar}
 use Rattle.format.specs.Fits.{ScalarFits}
 use Rattle.format.specs.Answer.{Answer, ok, ◌>>=◌}
 use Rattle.format.specs.Read.{kind_of, named_text, head_text}
@@ -55,7 +55,7 @@ module _ (l b : ℕ) (s : List ℕ) (q : Token × List ℕ) where
   as_head o i e = let a = bind_ok (head_text o l s) _ q e in subst (GotToken (b ∷ s)) (ok_same a.2) (rw i (head_read o l s a.0 a.1))
 
   -- by the tests for the tags, in their order
-  abbrev chosen : (brace array object objectReference variableReference : Bool) → Answer (Token × List ℕ)
+  abbrev chosen : (brace array object object_reference variable_reference : Bool) → Answer (Token × List ℕ)
   chosen c₁ c₂ c₃ c₄ c₅ = elim c₁ [
     | true ↦ ok (closing, s)
     | false ↦ elim c₂ [
@@ -63,9 +63,9 @@ module _ (l b : ℕ) (s : List ℕ) (q : Token × List ℕ) where
       | false ↦ elim c₃ [
         | true ↦ head_text false l s >>= λ (h, s₁). ok (opening_of h, s₁)
         | false ↦ elim c₄ [
-          | true ↦ named_text l s >>= λ (n, s₁). ok (reference_of objectRef n, s₁)
+          | true ↦ named_text l s >>= λ (n, s₁). ok (reference_of object_ref n, s₁)
           | false ↦ elim c₅ [
-            | true ↦ named_text l s >>= λ (n, s₁). ok (reference_of variableRef n, s₁)
+            | true ↦ named_text l s >>= λ (n, s₁). ok (reference_of variable_ref n, s₁)
             | false ↦ scalar_behind b l s >>= λ (x, s₁). ok (scalar x, s₁)
           ]
         ]
@@ -78,8 +78,8 @@ module _ (l b : ℕ) (s : List ℕ) (q : Token × List ℕ) where
   by_tests true c₂ c₃ c₄ c₅ f₁ f₂ f₃ f₄ f₅ e = subst (GotToken (b ∷ s)) (ok_same e) (ap {B = List ℕ} (λ y. y ∷ s) (eqb-true b 125 f₁), tt)
   by_tests false true c₃ c₄ c₅ f₁ f₂ f₃ f₄ f₅ e = as_head true (eqb-true b 97 f₂) e
   by_tests false false true c₄ c₅ f₁ f₂ f₃ f₄ f₅ e = as_head false (eqb-true b 79 f₃) e
-  by_tests false false false true c₅ f₁ f₂ f₃ f₄ f₅ e = as_reference objectRef (eqb-true b 114 f₄) e
-  by_tests false false false false true f₁ f₂ f₃ f₄ f₅ e = as_reference variableRef (eqb-true b 82 f₅) e
+  by_tests false false false true c₅ f₁ f₂ f₃ f₄ f₅ e = as_reference object_ref (eqb-true b 114 f₄) e
+  by_tests false false false false true f₁ f₂ f₃ f₄ f₅ e = as_reference variable_ref (eqb-true b 82 f₅) e
   by_tests false false false false false f₁ f₂ f₃ f₄ f₅ e = as_scalar e
 
   behind-read : token_behind b l s ≡ ok q → GotToken (b ∷ s) q

@@ -3,7 +3,7 @@ use Rattle.std.specs.Prelude.{◌≡◌, ◌⊎◌, List, [], ◌∷◌, ◌++�
 use Rattle.format.specs.Bytes.{byte}
 use Rattle.format.specs.Kind.{Kind, tag, is_tag_of}
 use Rattle.format.specs.Tree.{leaf, ref, branch, none, pair, count, one}
-use Rattle.format.specs.Syntax.{int_key, string_key, int, string, Key, Spelling, Scalar, Container, Head, RefKind, objectRef, variableRef, ref_kind}
+use Rattle.format.specs.Syntax.{int_key, string_key, int, string, Key, Spelling, Scalar, Container, Head, RefKind, object_ref, variable_ref, ref_kind}
 use Rattle.format.specs.Syntax.{Reference, Value, Values, write_number, write_scalar, write_container}
 use Rattle.format.specs.Limits.{number_limit}
 use Rattle.format.specs.Fits.{ScalarFits, ContainerFits}
@@ -34,10 +34,10 @@ token_behind b l s = elim (eqb b (byte "}")) [
     | true ↦ head_text true l s >>= λ (h, s₁). ok (opening_of h, s₁)
     | false ↦ elim (eqb b (tag Kind.object)) [
       | true ↦ head_text false l s >>= λ (h, s₁). ok (opening_of h, s₁)
-      | false ↦ elim (eqb b (tag Kind.objectReference)) [
-        | true ↦ named_text l s >>= λ (n, s₁). ok (reference_of objectRef n, s₁)
-        | false ↦ elim (eqb b (tag Kind.variableReference)) [
-          | true ↦ named_text l s >>= λ (n, s₁). ok (reference_of variableRef n, s₁)
+      | false ↦ elim (eqb b (tag Kind.object_reference)) [
+        | true ↦ named_text l s >>= λ (n, s₁). ok (reference_of object_ref n, s₁)
+        | false ↦ elim (eqb b (tag Kind.variable_reference)) [
+          | true ↦ named_text l s >>= λ (n, s₁). ok (reference_of variable_ref n, s₁)
           | false ↦ scalar_behind b l s >>= λ (x, s₁). ok (scalar x, s₁)
         ]
       ]
@@ -148,7 +148,7 @@ closes closing = 1
 
 -- r and R, in the order of their bytes
 abbrev pub ReferenceTag : ℕ → Type 0
-ReferenceTag b = (b ≡ tag Kind.variableReference) ⊎ (b ≡ tag Kind.objectReference)
+ReferenceTag b = (b ≡ tag Kind.variable_reference) ⊎ (b ≡ tag Kind.object_reference)
 
 -- the same by a token's first byte
 abbrev pub opens_of : (first : ℕ) → ℕ

@@ -1,7 +1,7 @@
 // A value as a figure, for C.
 ghost use Rattle.std.specs.Prelude.{◌≡◌};
 ghost use Rattle.figures.specs.Promise.{figured_answer};
-ghost use Rattle.tonschnecke.specs.Promise.{figureOf, TonFigures};
+ghost use Rattle.tonschnecke.specs.Promise.{figure_of, TonFigures};
 
 use conversion::Figure;
 use figures::Figured;
@@ -39,7 +39,7 @@ fn handed(kind: u64, whole: i64, real: f64) -> TonFigure
 
 // The answer as C gets it.
 fn as_struct(figured: Figured) -> TonFigure
-    ensures { result ≡ figureOf (figured_answer figured) }
+    ensures { result ≡ figure_of (figured_answer figured) }
 {
     match figured {
         Figured::Handed(figure) => match figure {

@@ -1,7 +1,7 @@
 -- `conversion::of_float` meets its contract. Assumes nothing.
 use mathlib.Core.Path.{◌≡◌, sym, ◌∙◌}
 use mathlib.Core.Bool.{false}
-use Rattle.format.specs.Limits.{isSpecial}
+use Rattle.format.specs.Limits.{is_special}
 use Rattle.conversion.proofs.Steps as steps
 use Rattle.conversion.proofs.TextSteps as texts
 use borrow.Author.Rules.{rules}
@@ -51,7 +51,7 @@ module _ (made : tie.After-scale) where
   abbrev decimal : tie.Else1
   decimal = scanned.before
 
-  plain : isSpecial decimal.before.before.before.args.text.now ≡ false
+  plain : is_special decimal.before.before.before.args.text.now ≡ false
   plain = sym decimal.before.is_special.ensures ∙ decimal.if1.left
 
 returns-4 : tie.Need-returns-4

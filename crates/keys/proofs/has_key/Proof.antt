@@ -46,12 +46,12 @@ module _ (compared : tie.After-same-key invariant-loop decreases-loop) where
   abbrev pair : tie.In-loop invariant-loop decreases-loop
   pair = compared.before.before
 
-  abbrev sameAs : KeyWords → Bool
-  sameAs w = same_key (key_said (start pair).args.of_array (start pair).args.other.now (start pair).args.key)
+  abbrev same_as : KeyWords → Bool
+  same_as w = same_key (key_said (start pair).args.of_array (start pair).args.other.now (start pair).args.key)
       (key_said (start pair).args.of_array (start pair).args.source.now w)
 
-  same : sameAs (key_words_at (start pair).args.table.now (looped pair).loop.i) ≡ compared.same_key.result
-  same = sym (compared.same_key.ensures ∙ ap sameAs (compared.before.key-at.ensures ∙ key-there _ _ (omega (arith, inside pair))))
+  same : same_as (key_words_at (start pair).args.table.now (looped pair).loop.i) ≡ compared.same_key.result
+  same = sym (compared.same_key.ensures ∙ ap same_as (compared.before.key-at.ensures ∙ key-there _ _ (omega (arith, inside pair))))
 
 key-at-requires : tie.Need-key-at-requires invariant-loop decreases-loop
 key-at-requires c κs = search rules

@@ -7,16 +7,16 @@ use mir.ValLaws.{to_z-of_z}
 use Rattle.conversion.specs.declared.Figure.{Figure}
 use Rattle.figures.specs.Promise.{figured_answer}
 use Rattle.figures.specs.declared.Figured.{Figured}
-use Rattle.tonschnecke.specs.Promise.{zeroFloat, figureOf}
+use Rattle.tonschnecke.specs.Promise.{zero_float, figure_of}
 use Rattle.tonschnecke.specs.declared.figure.TonFigure.{TonFigure}
 use borrow.Author.Rules.{rules}
 use Rattle.tonschnecke.proofs.figure.as_struct.Statement.{statement}
 use Rattle.tonschnecke.proofs.figure.as_struct.Tie as tie
 
 -- the struct of a figure that the answer turned out to hold
-told : {r : TonFigure} {answer : Figured} {inner shown : Figure} → answer ≡ Figured.Handed inner → inner ≡ shown → r ≡ figureOf (figured_answer (Figured.Handed shown))
-    → r ≡ figureOf (figured_answer answer)
-told e f g = g ∙ ap (λ (x : Figure). figureOf (figured_answer (Figured.Handed x))) (sym f) ∙ ap (λ (x : Figured). figureOf (figured_answer x)) (sym e)
+told : {r : TonFigure} {answer : Figured} {inner shown : Figure} → answer ≡ Figured.Handed inner → inner ≡ shown → r ≡ figure_of (figured_answer (Figured.Handed shown))
+    → r ≡ figure_of (figured_answer answer)
+told e f g = g ∙ ap (λ (x : Figure). figure_of (figured_answer (Figured.Handed x))) (sym f) ∙ ap (λ (x : Figured). figure_of (figured_answer x)) (sym e)
 
 enum-known-figured : tie.Need-enum-known-figured
 enum-known-figured c = search rules
@@ -46,27 +46,27 @@ cast-t9 : tie.Need-overflow-cast-t9
 cast-t9 c = search rules
 
 returns : tie.Need-returns
-unfolding figureOf figured_answer of_bits
+unfolding figure_of figured_answer of_bits
 returns c =
     let known = c.before.before in
     told known.before.before.before.figured.given.1 known.figure.given.1
-    (c.handed.ensures ∙ ap (λ (n : ℤ). record { code = 0; at = 0; kind = 1; whole = n; real = zeroFloat }) (to_z-of_z w64 _ (record { sfits = c.before.known-told2.given.0.1 })))
+    (c.handed.ensures ∙ ap (λ (n : ℤ). record { code = 0; at = 0; kind = 1; whole = n; real = zero_float }) (to_z-of_z w64 _ (record { sfits = c.before.known-told2.given.0.1 })))
 
 returns-2 : tie.Need-returns-2
-unfolding figureOf figured_answer
+unfolding figure_of figured_answer
 returns-2 c =
     let known = c.before.before in
     told known.before.before.before.figured.given.1 known.figure2.given.1 c.handed2.ensures
 
 returns-3 : tie.Need-returns-3
-unfolding figureOf figured_answer of_bits
+unfolding figure_of figured_answer of_bits
 returns-3 c =
     let known = c.before in
     told known.before.before.before.figured.given.1 known.enum_told.given.1 c.handed3.ensures
 
 returns-4 : tie.Need-returns-4
-unfolding figureOf figured_answer of_bits
-returns-4 c = ap (λ (x : Figured). figureOf (figured_answer x)) (sym c.before.figured2.given.1)
+unfolding figure_of figured_answer of_bits
+returns-4 c = ap (λ (x : Figured). figure_of (figured_answer x)) (sym c.before.figured2.given.1)
 
 pub as-struct-spec : {M : Type 1} → statement M
 as-struct-spec =

@@ -12,7 +12,7 @@ abbrev containers : List Kind
 containers = Kind.object ∷ Kind.array ∷ []
 
 abbrev reference : List Kind
-reference = Kind.objectReference ∷ []
+reference = Kind.object_reference ∷ []
 
 returns : tie.Need-returns
 returns c = arm_is ordinal_kinds scalars _ tt c.match.keys1
