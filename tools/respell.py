@@ -45,7 +45,8 @@ def main():
     here = os.path.dirname(os.path.realpath(__file__))
     names = dict(line.split() for line in read(os.path.join(here, "respell.txt")).splitlines())
     for path, (old, new) in FIRST.items():
-        if os.path.exists(path):
+        # a file that is respelled already is left
+        if os.path.exists(path) and new not in read(path):
             write(path, re.sub(r"(?<![\w.\-])" + old + r"(?![\w\-])", new, read(path)))
     for top, folders, files in os.walk("crates"):
         folders[:] = [f for f in folders if f != "out"]

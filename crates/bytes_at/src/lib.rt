@@ -1,6 +1,8 @@
 // Bytes of a source by their index: takes bytes and any index, and gives whether one byte, or two, stand there; or takes two texts and gives whether they
 // are the same. Past the end stands no byte, so the answer is no; nothing is refused. For all who look at bytes: floats, scanner, keys, reader, rewriting
 // and placing. It lies below the scanner, so that an edit of it proves its own layer.
+#![tactic(auto)]
+
 ghost use Rattle.std.specs.Prelude.{◌≡◌, ◌&&◌, ◌+◌, eqb};
 ghost use Rattle.format.specs.Bytes.{same_bytes};
 ghost use Rattle.bytes_at.specs.ByteAt.{byte_at};

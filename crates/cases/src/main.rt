@@ -14,6 +14,8 @@
 // then the words behind those up to the last that is not as it was, a line for each node, with its index. Before a call every word and
 // byte, those behind the lent ones too, holds what no call writes (memory.rt), and what is not printed holds it still: no wrong word or
 // byte leaves the text as it is.
+#![tactic(auto)]
+
 use crate::line::{expand, field, lent, number, part};
 use crate::memory::hold;
 use crate::report::{print, print_output, print_reading, print_table, print_writing};

@@ -2,23 +2,23 @@
 use Rattle.std.proofs.Common.{◌≡◌, ℕ, ◌+◌, ◌-◌, ◌*◌, ◌<◌, ◌≤◌, min, true, false, leb, List, [], ◌∷◌, length, get_or, drop, sym, refl, ap, ◌∙◌, add-one, arith, drop_of_length-le, drop-cons, le-leb}
 use mathlib.Core.Bool.{and-false}
 use borrow.Author.Tests.{lt-leb}
-use Rattle.decimal.specs.Digits.{is_digit_lem, digits_of, value, value_from}
+use Rattle.decimal.specs.Digits.{is_digit, digits_of, value, value_from}
 use Rattle.decimal.specs.Promise.{RunAt}
 
-is_digit_lem : (b : ℕ) → 48 ≤ b → b ≤ 57 → is_digit_lem b ≡ true
+is_digit_lem : (b : ℕ) → 48 ≤ b → b ≤ 57 → is_digit b ≡ true
 is_digit_lem b l h = simp (le-leb 48 b l, le-leb b 57 h)
 
-pub below-digits : (b : ℕ) → b < 48 → is_digit_lem b ≡ false
+pub below-digits : (b : ℕ) → b < 48 → is_digit b ≡ false
 below-digits b h = simp (lt-leb 48 b h)
 
-pub above-digits : (b : ℕ) → 57 < b → is_digit_lem b ≡ false
+pub above-digits : (b : ℕ) → 57 < b → is_digit b ≡ false
 above-digits b h = rw (lt-leb b 57 h) (and-false (leb 48 b))
 
 -- the run from an index on, by the byte that stands there
-pub run_more : (s : List ℕ) (i : ℕ) → i < length s → is_digit_lem (get_or s i 0) ≡ true → digits_of (drop i s) ≡ get_or s i 0 ∷ digits_of (drop (i + 1) s)
+pub run_more : (s : List ℕ) (i : ℕ) → i < length s → is_digit (get_or s i 0) ≡ true → digits_of (drop i s) ≡ get_or s i 0 ∷ digits_of (drop (i + 1) s)
 run_more s i h e = rw (add-one, drop-cons s i 0, digits_of, e)
 
-pub run_stops : (s : List ℕ) (i : ℕ) → i < length s → is_digit_lem (get_or s i 0) ≡ false → digits_of (drop i s) ≡ []
+pub run_stops : (s : List ℕ) (i : ℕ) → i < length s → is_digit (get_or s i 0) ≡ false → digits_of (drop i s) ≡ []
 run_stops s i h e = rw (drop-cons s i 0, digits_of, e)
 
 pub run_ends : (s : List ℕ) (i : ℕ) → length s ≤ i → digits_of (drop i s) ≡ []

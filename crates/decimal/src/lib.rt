@@ -4,19 +4,21 @@
 // `write_decimal` stores the shortest digits and gives their count, which cannot overflow. It loses the stores that fall outside, and so does `put`, by which
 // rewriting writes a minus.
 // `pattern_of` and `signed_of` lead from sign and magnitude to a word and back. The laws of proofs/ hold for every width.
+#![tactic(auto)]
+
 ghost use Rattle.std.specs.Prelude.{◌≡◌, ◌+◌, ◌-◌, ◌*◌, ◌≤◌, min, slice_set};
 ghost use Rattle.decimal.specs.Complement.{pattern};
 ghost use Rattle.decimal.specs.Promise.{RunAt, Stored, SignedOf};
 
 // A run of digits: the index after it, and its value, held at a cap.
-#[derive(Drop)]
+#[derive(Clone, Copy)]
 pub struct Run {
     pub next: usize,
     pub value: u64,
 }
 
 // An integer by its sign and magnitude.
-#[derive(Drop)]
+#[derive(Clone, Copy)]
 pub struct Signed {
     pub negative: bool,
     pub magnitude: u64,

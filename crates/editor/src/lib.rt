@@ -3,6 +3,8 @@
 // 14: then every word of the table is zero, and the output as it was. The C interface and the program cases call them.
 // Both end in `write_plan`. Four crates make the services, so that an edit proves a quarter of the code again: tokens (what a plan is made of), rewriting (what
 // an edit writes), placing (reading, and the steps before writing) and this one (14, writing, reading again). Each rests on the promises of those below alone.
+#![tactic(auto)]
+
 ghost use Rattle.std.specs.Prelude.{◌≡◌, true, length};
 ghost use Rattle.format.specs.Answer.{refusal_of};
 ghost use Rattle.format.specs.Reading.{terms_of};
@@ -26,14 +28,14 @@ const SHORT_SOURCE: usize = 49000;
 const SHORT_TEXT: usize = 2000;
 
 // What a service that writes a plan answers: the length written, or a refusal's number and position.
-#[derive(Drop)]
+#[derive(Clone, Copy)]
 pub enum Writing {
     Written { length: usize },
     Refused { code: u8, at: usize },
 }
 
 // Whether there is room for what is to write: 14 if it is exceeded (`room_answer`, specs/Ends).
-#[derive(Drop)]
+#[derive(Clone, Copy)]
 enum Room {
     Enough,
     Exceeded,

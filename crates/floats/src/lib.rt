@@ -1,6 +1,8 @@
 // Whether bytes are a float text, `INF`, `-12.5e3` and the like: takes the whole text and gives yes or no, as the grammar's `is_float` does.
 // Nothing is refused here: the scanner, which calls it with what stands before the first `;`, makes a no its refusal 2. (No float text holds a `;`.)
 // It lies below the scanner, so that an edit of it proves its own layer.
+#![tactic(auto)]
+
 ghost use Rattle.std.specs.Prelude.{◌≡◌, ◌≤◌, length, drop};
 ghost use Rattle.format.specs.Limits.{is_float, is_decimal, is_exponent};
 ghost use Rattle.floats.specs.SignEnd.{SignEnd};

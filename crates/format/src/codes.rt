@@ -1,5 +1,5 @@
 // Refusals, for code: "A refusal returns its number and a position".
-#[derive(Drop)]
+#[derive(Clone, Copy)]
 pub struct Refusal {
     pub code: u8,
     pub at: usize,

@@ -3,7 +3,7 @@ ghost use Rattle.std.specs.Prelude.{◌≡◌};
 ghost use Rattle.format.specs.Kind.{has_ordinal, may_be_key, has_text};
 
 // A kind, by its tag. (The paper's letter of a kind is its tag.)
-#[derive(Drop)]
+#[derive(Clone, Copy)]
 pub struct Kind {
     pub tag: u8,
 }

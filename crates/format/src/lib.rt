@@ -4,6 +4,8 @@
 // any byte. Nothing is refused. Reader and placing ask; keys asks `Kind::has_text`, where a key's text is looked for.
 // Proof modules are checked in the order of their names: Cases comes before those that rest on the definitions' text, so that the first error of an edit of a
 // definition is the worked case that it breaks, and not a proof that no longer fits the text. Hence the names Inversion, NormalForm and NormalTable.
+#![tactic(auto)]
+
 pub mod codes;
 pub mod kind;
 pub mod limits;

@@ -3,6 +3,8 @@
 // `hash` takes a key by its words and the container's first node; `enter` marks a hash in the words lent, whatever their count, and says whether it was marked.
 // Nothing is refused: where no word is lent, each hash counts as marked. The reader calls both; what it needs is one law, that no key entered is taken for new
 // (`new-key`, proofs/Marking). So the filter decides time and never an answer. A crate of its own, so that an edit of it does not prove the reader again.
+#![tactic(auto)]
+
 ghost use Rattle.std.specs.Prelude.{◌≡◌, ◌+◌, ◌*◌, ◌^◌, ◌≤◌, ◌<◌, length, take, drop};
 ghost use Rattle.keys.specs.KeyWords.{text_of};
 ghost use Rattle.key_filter.specs.Hash.{mixed, spread, half_of, rest_of, mixed_text, start, text_hash, hash_words};

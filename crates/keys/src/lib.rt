@@ -5,6 +5,8 @@
 // a walk ends where the next pair would not stand in the table behind the last.
 // Reader and placing call it, key_filter takes its words. It lies below them, so that an edit of the key test proves its own layer.
 // The two sources have lifetimes of their own, as those of `bytes_at::same_bytes`: the kit's borrow checker covers no call whose two lent slices must have one.
+#![tactic(auto)]
+
 ghost use Rattle.std.specs.Prelude.{◌≡◌, ◌-◌, min};
 ghost use Rattle.format.specs.Kind.{has_text};
 ghost use Rattle.format.specs.Keys.{same_key, has_key};
@@ -16,7 +18,7 @@ use format::kind::Kind;
 use format::table::{CONTENT, PAIR_END, SIZE, WIDTH};
 
 // A key by words 0, 2 and 3 of its node.
-#[derive(Drop)]
+#[derive(Clone, Copy)]
 pub struct KeyWords {
     pub tag: u64,
     pub content: u64,

@@ -1,6 +1,8 @@
 // The program nodes: takes a plan from standard input, 65,536 bytes at the most, and prints a line for each node, `97,1,0,0,1,3`, or `refused 2 at 0`.
 // It lends `read` a table of 8,190 words, and refuses a 65,537th byte itself, 1 at 0. Each line ends with one LF, and nothing else is printed.
 // Users call it, and tests/nodes.sh. It is proved to end without fault; what it prints is tested.
+#![tactic(auto)]
+
 ghost use Rattle.std.specs.Prelude.{◌+◌, ◌*◌, ◌≤◌, length};
 ghost use Rattle.format.specs.Table.{width};
 

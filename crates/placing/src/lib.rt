@@ -2,6 +2,8 @@
 // steps before writing in the paper's order. Gives the spot, the table being that of the plan given; or refuses as inserting does whatever room the output
 // has: 1 to 10 with reading's position, or 11, 12, 13, 9, 8 or 7 at 0, every word of the table zero. The editor calls `locate`.
 // Facts come from the table (the array's count, ordinal and keys, and where its pairs begin), positions from the bytes: no tag's position stands in the table.
+#![tactic(auto)]
+
 ghost use Rattle.std.specs.Prelude.{◌≡◌};
 ghost use Rattle.format.specs.Answer.{refusal_of};
 ghost use Rattle.reader.specs.Promise.{reading_answer};
@@ -19,7 +21,7 @@ mod target;
 mod texts;
 
 // Where the pair goes, a splice that leaves nothing out; or a refusal's number and position.
-#[derive(Drop)]
+#[derive(Clone, Copy)]
 pub enum Placing {
     At(Splice),
     Refused { code: u8, at: usize },

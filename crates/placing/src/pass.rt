@@ -11,7 +11,7 @@ use scanner::Scan;
 use tokens::token;
 
 // The index reached, and how many of the containers that were opened on the way are still open around it.
-#[derive(Drop)]
+#[derive(Clone, Copy)]
 pub struct Passed {
     pub at: usize,
     pub around: usize,

@@ -11,7 +11,7 @@ use format::table::{END, WIDTH};
 use keys::{KeyWords, has_key};
 
 // What such a step answers: it passes, or one of 9, 8 and 7 holds.
-#[derive(Drop)]
+#[derive(Clone, Copy)]
 pub enum Check {
     Passed,
     KeyPresent,

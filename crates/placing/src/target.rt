@@ -6,7 +6,7 @@ ghost use Rattle.placing.specs.Words.{pair_node, carriers, target_answer, array_
 use format::table::{ARRAY_TAG, LINK, ORDINAL, PAIR_END, WIDTH};
 
 // What stands at a node: an array with its count of pairs and its ordinal, or something else.
-#[derive(Drop)]
+#[derive(Clone, Copy)]
 pub enum Target {
     Array { count: u64, ordinal: u64 },
     Other,
@@ -14,7 +14,7 @@ pub enum Target {
 
 // A place among an array's pairs: the node of the key before which the new pair goes, or the one behind the array, and the ordinal that the new value takes;
 // or a place above the count.
-#[derive(Drop)]
+#[derive(Clone, Copy)]
 pub enum Gap {
     Before { node: usize, ordinal: u64 },
     Beyond,

@@ -9,7 +9,7 @@ use scanner::Scan;
 use scanner::scalar::scalar;
 
 // The key's words, if both texts are what they should be.
-#[derive(Drop)]
+#[derive(Clone, Copy)]
 pub enum Texts {
     Fit(KeyWords),
     Unfit,

@@ -8,7 +8,7 @@ use format::codes::{TABLE_FULL, TOO_DEEP};
 use scanner::Scan;
 
 // The next byte, the next node, the ordinals taken and the levels left.
-#[derive(Drop)]
+#[derive(Clone, Copy)]
 pub struct Cursor {
     pub at: usize,
     pub node: usize,
@@ -17,14 +17,14 @@ pub struct Cursor {
 }
 
 // A step's answer: the cursor behind it, or the refusal's number and position.
-#[derive(Drop)]
+#[derive(Clone, Copy)]
 pub enum Step {
     Done(Cursor),
     Refused(u8, usize),
 }
 
 // Whether there is a level and a node for a value, or the refusal's number.
-#[derive(Drop)]
+#[derive(Clone, Copy)]
 pub enum Gate {
     Open,
     Shut(u8),

@@ -5,6 +5,8 @@
 // position being `drop at source`. A good step hands over the value read, and says what the table holds for every naming of the ordinals so far; `read` puts
 // the definition's own naming in (proofs/WholeSteps).
 // The two searches, for equal keys (seen.rt) and for the node of an ordinal (lookup.rt), have narrow contracts that do not say how they search.
+#![tactic(auto)]
+
 ghost use Rattle.std.specs.Prelude.{◌*◌, ◌≤◌, length};
 ghost use Rattle.format.specs.Table.{width};
 ghost use Rattle.reader.specs.Promise.{Reads};
@@ -33,7 +35,7 @@ const LARGER_FROM: usize = 4096;
 const LARGE_FROM: usize = 16384;
 
 // What reading answers: the nodes written and the ordinals taken, or a refusal's number and position.
-#[derive(Drop)]
+#[derive(Clone, Copy)]
 pub enum Reading {
     Accepted { nodes: usize, ordinals: usize },
     Refused { code: u8, at: usize },

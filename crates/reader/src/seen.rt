@@ -10,7 +10,7 @@ use format::table::{INT_TAG, PAIR_END, WIDTH};
 use keys::{KeyWords, has_key, key_at};
 
 // What is known of the keys so far: there is none; no integer among them has a higher rank; all are marked.
-#[derive(Drop)]
+#[derive(Clone, Copy)]
 pub enum Seen {
     Nothing,
     Upto(u64),

@@ -5,6 +5,8 @@
 // that fill the bytes are those between (`between-stretch`, crates/tokens).
 // The table is that of the plan which was read: what becomes of a token may ask for its node's tag. A table of other words gives what the definition says.
 // Goes by tokens, scanned again, since no tag's offset stands in the table: those that stay are passed and copied as one stretch, the others written again.
+#![tactic(auto)]
+
 ghost use Rattle.std.specs.Prelude.{◌≡◌};
 ghost use Rattle.rewriting.specs.Edited.{writable, Edits};
 
@@ -19,14 +21,14 @@ mod shortest;
 pub mod splice;
 mod stretch;
 
-#[derive(Drop)]
+#[derive(Clone, Copy)]
 pub enum Edit {
     Canonical,
     Splice(Splice),
 }
 
 // The length of the whole; or that it is not edited at all, which is 14 (`edited_answer`, specs/Edited).
-#[derive(Drop)]
+#[derive(Clone, Copy)]
 pub enum Edited {
     Written(usize),
     Unfit,

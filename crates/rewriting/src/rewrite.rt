@@ -15,7 +15,7 @@ use scanner::Text;
 use tables::tag_at;
 
 // What becomes of a token: it is written in canonical spelling; or a reference that moves names another ordinal, in shortest form, and all else is copied.
-#[derive(Drop)]
+#[derive(Clone, Copy)]
 pub enum Change {
     Canonical,
     Renumber(Renumbering),

@@ -9,7 +9,7 @@ use crate::shortest::numbered;
 use format::limits::NUMBER_LIMIT;
 
 // How references move: one that names an ordinal from this one on names it less `down` and plus `up`, in shortest form, if that is another.
-#[derive(Drop)]
+#[derive(Clone, Copy)]
 pub struct Renumbering {
     pub from: u64,
     pub down: u64,
@@ -18,7 +18,7 @@ pub struct Renumbering {
 
 // Where the source changes: the indices of the array's tag and of its first pair, and those from which and up to which bytes are left out for the texts that
 // go in (one index where none is); the array's new count of pairs, and how references move.
-#[derive(Drop)]
+#[derive(Clone, Copy)]
 pub struct Splice {
     pub at: usize,
     pub inside: usize,

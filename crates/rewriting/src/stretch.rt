@@ -42,7 +42,7 @@ fn stays(source: &[u8], at: usize, text: Text, tag: u64, change: Change) -> bool
 }
 
 // What ends a stretch: a token that changes, with its text and its node; or that no token is left to write.
-#[derive(Drop)]
+#[derive(Clone, Copy)]
 pub enum Stop {
     Token { at: usize, text: Text, node: usize },
     End(usize),

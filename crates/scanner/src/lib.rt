@@ -5,6 +5,8 @@
 // values have one definition of their texts, `scalar_behind`.
 // One shape of promise (`Answers`): the answer (`scan_answer`) is what the definition reads from that index on, as words 2, 3 and 4 of the node (`text_answer`);
 // and, for those who go on reading, what was read (`Scans`); both wherever the tag stands.
+#![tactic(auto)]
+
 mod flag;
 mod float;
 pub mod head;
@@ -15,7 +17,7 @@ pub mod scalar;
 
 // What a text tells: words 2, 3 and 4 of the node, and the index after the text. Words that stand side by side in a node stand apart here: loaded as one pair,
 // they would wait for the two stores of the scan.
-#[derive(Drop)]
+#[derive(Clone, Copy)]
 pub struct Text {
     pub content: u64,
     pub link: u64,
@@ -24,7 +26,7 @@ pub struct Text {
 }
 
 // A text, or the number of its refusal; the position is the tag's, which the caller knows.
-#[derive(Drop)]
+#[derive(Clone, Copy)]
 pub enum Scan {
     Is(Text),
     Not(u8),

@@ -58,7 +58,7 @@ pub(crate) fn magnitude(source: &[u8], at: usize, negative: bool, top: u64) -> S
 }
 
 // An integer's sign at an index: the index behind it, whether it is a minus, and the greatest magnitude that it allows.
-#[derive(Drop)]
+#[derive(Clone, Copy)]
 pub struct Front {
     pub from: usize,
     pub negative: bool,

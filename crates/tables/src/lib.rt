@@ -1,6 +1,8 @@
 // The table that a caller lends. `clear` takes any, and makes every word of it zero, those behind the last whole node too; `tag_at` gives the tag of a node.
 // Nothing is refused here: zeros are what a refusal leaves.
 // Reader, placing and editor call `clear`, each for the refusals that are its own; rewriting calls `tag_at`.
+#![tactic(auto)]
+
 ghost use Rattle.std.specs.Prelude.{◌≡◌};
 ghost use Rattle.format.specs.Table.{word_at, tag_word};
 ghost use Rattle.format.specs.Reading.{cleared};

@@ -1,6 +1,8 @@
 // Tokens: a key's or a value's own text, from its tag on; of a container its head; and the closing brace. What a plan that was read is made of, one behind
 // another. Takes a source and any index, and gives what the token there tells and where it ends; or refuses it as the scanner does, with 2, 3 or 5.
 // Rewriting and placing call it. specs/Between has the tokens of any bytes, up to the first that is none (`tokens_between`).
+#![tactic(auto)]
+
 ghost use Rattle.scanner.specs.Scans.{Answers};
 ghost use Rattle.tokens.specs.Tokens.{read_token, token_told};
 

@@ -4,5 +4,7 @@
 // its length is 0: the kit does not speak of that for exported functions, so the programs in examples/ try it. C calls it, and Rust by rust/tonschnecke.
 // The filter of keys stands on the stack: the header says how much a call needs, and a test calls with as much.
 // Reading and writing have files of their own, so that a must-fail edit's line is the only one of its kind there.
+#![tactic(auto)]
+
 pub mod reading;
 pub mod writing;

@@ -5,7 +5,7 @@ use reader::Reading;
 
 // What reading answers. Code 0: accepted, and `at` is 0; a refusal has 0 nodes and 0 ordinals.
 #[repr(C)]
-#[derive(Drop)]
+#[derive(Clone, Copy)]
 pub struct TonReading {
     pub code: u64,
     pub at: u64,

@@ -9,7 +9,7 @@ use editor::Writing;
 
 // What a service that writes a plan answers. Code 0: written, and `at` is 0; a refusal has length 0.
 #[repr(C)]
-#[derive(Drop)]
+#[derive(Clone, Copy)]
 pub struct TonWriting {
     pub code: u64,
     pub at: u64,

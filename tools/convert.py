@@ -1,0 +1,143 @@
+#!/usr/bin/env python3
+"""Turns the repository's old walks (proofs/F/Proof.antt) into Invariants.antt and Answers.antt, as far as text goes.
+
+usage: python3 tools/convert.py NAMES.json CRATE_FOLDER      NAMES.json: what `rt check --generated FOLDER --old-names` wrote there
+
+An answer that only searches goes. What a helper of the walk says of a place stays as it is, to be mended by hand.
+"""
+import json, os, re, sys
+
+TRIVIAL = re.compile(r"^(search rules|omega arith|tt|\(omega arith, tt\))$")
+
+
+def norm(name):
+    return name.replace("_", "-")
+
+
+def chunks(text):
+    out, cur = [], []
+    for line in text.split("\n"):
+        if line and not line[0].isspace() and cur and not re.match(r"^(unfolding )", line):
+            head = cur[-1] if cur[-1].startswith("--") or cur[-1].startswith("unfolding ") else None
+            name = re.match(r"^(?:abbrev |pub )*([^\s:]+)", line).group(1)
+            prev = next((re.match(r"^(?:abbrev |pub )*([^\s:]+)", l).group(1) for l in cur if not l.startswith(("--", "unfolding "))), None)
+            if all(l.startswith("--") or not l.strip() for l in cur) or name == prev:
+                cur.append(line)
+                continue
+            out.append(cur)
+            cur = []
+        cur.append(line)
+    if cur:
+        out.append(cur)
+    return out
+
+
+def walk(path, module, names):
+    with open(path, encoding="utf-8") as f:
+        text = f.read()
+    fields = {norm(p[2][0]): p[2][1] for p in names["places"] if p[2] and p[2][0]}
+    needs = {}
+    for old, new in names["needs"]:
+        needs[norm(old)] = new
+    changed = names["changed"]
+    loops = {}
+    for k, (ns, vs) in enumerate(names["loops"]):
+        flags = changed[k] if k < len(changed) else [False] * len(vs)
+        still = [v for v, c in zip(vs, flags) if not c]
+        moved = [v for v, c in zip(vs, flags) if c]
+        loops[norm(ns[0])] = (ns[1], ["l." + v for v in still] + ["l.initial." + v for v in moved] + ["l." + v for v in moved])
+
+    def body(t):
+        t = re.sub(r"(\.before)+(?![\w\-])", "", t)
+        t = re.sub(r"\.taken\b", ".true", t)
+        t = re.sub(r"\.inv\b(?![\-])", ".invariant", t)
+
+        def field(m):
+            return "." + fields.get(norm(m.group(1)), m.group(1))
+
+        return re.sub(r"\.([A-Za-z_][\w\-']*)", field, t)
+
+    uses, comments, invariants, answers, rest = [], [], [], [], []
+    for c in chunks(text):
+        joined = "\n".join(c).rstrip()
+        code = [l for l in c if not l.startswith("--")]
+        first = code[0] if code else ""
+        if first.startswith("use ") or (not code):
+            for l in c:
+                (uses if l.startswith("use ") else comments).append(l)
+            continue
+        m = re.match(r"^(?:abbrev )?(?:pub )?([^\s:]+) : tie\.(invariant|decreases)-(\S+)", first)
+        if m:
+            kind, loop = m.group(2), norm(m.group(3))
+            if loop in loops:
+                new, params = loops[loop]
+                eq = "\n".join(l for l in c[1:] if not l.startswith("--"))
+                em = re.match(r"^(?:unfolding [^\n]*\n)?" + re.escape(m.group(1)) + r"((?:\s+\S+?)*?)\s=\s(.*)$", eq, re.S)
+                if em:
+                    olds = em.group(1).split()
+                    b = em.group(2)
+                    if len(olds) == len(params):
+                        for o, p in zip(olds, params):
+                            if o != "_":
+                                b = re.sub(r"(?<![\w.\-'\u2080])" + re.escape(o) + r"(?![\w\-'\u2080])", "\0" + p[2:], b)
+                        b = b.replace("\0", "l.")
+                        name = f"{kind}-{new}"
+                        invariants.append("\n".join([l for l in c if l.startswith("--")] + [f"abbrev pub {name} : goal.{name}", f"{name} l = {b.rstrip()}"]))
+                        continue
+            invariants.append("-- BY HAND\n" + joined)
+            continue
+        m = re.match(r"^([^\s:]+) : (?:\((\w+) : ℕ\) → )?(tie|[\w\-]*lts)\.Need-(\S+)", first)
+        if m:
+            key = norm(m.group(4))
+            tries = [key, re.sub(r"^overflow-|^shape-", "", key)]
+            new = next((needs[k] for k in tries if k in needs), None)
+            if new is None and any(norm(n) == key for n in needs.values()):
+                new = next(n for n in needs.values() if norm(n) == key)
+            eq = [l for l in c if not l.startswith("--") and l is not first]
+            unf = [l for l in eq if l.startswith("unfolding ")]
+            eq = "\n".join(l for l in eq if not l.startswith("unfolding ")).rstrip()
+            em = re.match(r"^" + re.escape(m.group(1)) + r"((?:\s+\S+?)*?)\s=\s(.*)$", eq, re.S)
+            if em and TRIVIAL.match(em.group(2).strip()) and not unf:
+                continue
+            if em and new:
+                args = [a for a in em.group(1).split() if a != "κs"]
+                b = body(em.group(2))
+                answers.append("\n".join([l for l in c if l.startswith("--")] + [f"pub {new} : goal.{new}"] + unf + [f"{new} {' '.join(args)} = {b}"]))
+                continue
+            answers.append("-- BY HAND\n" + joined)
+            continue
+        if re.match(r"^pub \+?[\w\-]+[_\-]spec ", first):
+            continue
+        rest.append(body(joined))
+    folder = os.path.dirname(path)
+    drop = re.compile(r"\.(Statement|Tie|Lts[\w\-]*|Reads|Kinds)\b|^use borrow\.Fn|^use Rattle\.\w+\.proofs\.\+?[\w+]+(\.[\w+]+)*\.\{statement\}|borrow\.Author")
+    kept = [u for u in uses if u.strip() and not drop.search(u)]
+    mod = module.replace("-", ".", 1).replace("-proofs", ".proofs", 1)
+    comment = "\n".join(l for l in comments if l.strip())
+    uses_text = "\n".join(kept)
+    base = re.sub(r"\.Lts.*$", "", mod)
+    if invariants:
+        with open(os.path.join(folder, "Invariants.antt"), "w", encoding="utf-8") as f:
+            f.write((comment + "\n" if comment else "") + uses_text + f"\nuse {base}.Given as goal\n\n" + "\n\n".join(invariants) + "\n")
+    if answers or rest:
+        with open(os.path.join(folder, "Answers.antt"), "w", encoding="utf-8") as f:
+            f.write((comment + "\n" if comment else "") + uses_text + f"\nuse {base}.Goals as goal\n\n" + "\n\n".join(rest + answers) + "\n")
+    os.rename(path, path[: -len("Proof.antt")] + "Proof.old.txt")
+
+
+def main():
+    names = json.load(open(sys.argv[1], encoding="utf-8"))
+    crate = sys.argv[2].rstrip("/")
+    for module, entry in names.items():
+        m = re.match(r"^Rattle-(\w+)-proofs\.(.*)\.Lts$", module)
+        if not m:
+            if re.match(r"^Rattle-\w+-proofs\..*Lts-", module):
+                print("cycle, by hand:", module)
+            continue
+        path = os.path.join(crate, "proofs", m.group(2).replace(".", "/"), "Proof.antt")
+        if os.path.exists(path):
+            walk(path, module, entry)
+
+
+if __name__ == "__main__":
+    main()
