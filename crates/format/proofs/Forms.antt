@@ -128,6 +128,10 @@ module _ (set : Setting) where
   scalar-body inner Kind.int int l seen before s r x e = rw e
   scalar-body inner Kind.float float l seen before s r x e = rw e
   scalar-body inner Kind.string string l seen before s r x e = rw e
+  scalar-body inner Kind.array scalar l seen before s r x e = elim scalar [ ]
+  scalar-body inner Kind.object scalar l seen before s r x e = elim scalar [ ]
+  scalar-body inner Kind.object_reference scalar l seen before s r x e = elim scalar [ ]
+  scalar-body inner Kind.variable_reference scalar l seen before s r x e = elim scalar [ ]
 
   ref-body : (inner : Inner) (n : Reference) (k : RefKind) → n.kind ≡ k → (l : ℕ) (seen : Seen) (before : ℕ) (s r : List ℕ) → 1 ≤ n.named → n.named ≤ seen
       → set.form.named_text l s ≡ ok ((n.spelling, n.named), r) → read_body set inner (ref_kind k) l seen before s ≡ ok (ref n, r)
