@@ -1,13 +1,9 @@
 -- `bytes_at::bytes_are` meets its contract. Assumes nothing.
-use Prim.Native.Nat.{◌+◌}
-use mathlib.Core.Path.{sym, ap, ◌∙◌}
-use mathlib.Core.Bool.{Bool, ◌&&◌}
+use mathlib.Core.Path.{sym, ◌∙◌}
 use native.Mathlib.Omega.{arith}
-use borrow.Author.Tests.{not-false}
-use Rattle.bytes_at.specs.ByteAt.{byte_at}
 use Rattle.bytes_at.proofs.BytesAt.{byte-there}
 use Rattle.bytes_at.proofs.bytes_are.Goals as goal
 
 pub overflow_add-at : goal.overflow_add-at
 overflow_add-at c =
-    omega (arith, byte-there _ _ c.args.first (omega arith) (sym c.byte_is.ensures ∙ not-false _ c.if-not-byte_is.false))
+    omega (arith, byte-there _ _ c.args.first (omega arith) (sym c.byte_is.ensures ∙ c.if-not-byte_is.false))
