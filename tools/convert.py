@@ -52,9 +52,12 @@ def walk(path, module, names):
         t = re.sub(r"\.taken\b", ".true", t)
         t = re.sub(r"\.inv\b(?![\-])", ".invariant", t)
 
+        t = re.sub(r"\bnot-(?:true|false) _ (?=[a-z(])", "", t)
+
         def field(m):
             return "." + fields.get(norm(m.group(1)), m.group(1))
 
+        t = re.sub(r"\bnot-(?:true|false) _ (?=[a-z(])", "", t)
         return re.sub(r"\.([A-Za-z_][\w\-']*)", field, t)
 
     uses, comments, invariants, answers, rest = [], [], [], [], []
@@ -110,7 +113,7 @@ def walk(path, module, names):
             continue
         rest.append(body(joined))
     folder = os.path.dirname(path)
-    drop = re.compile(r"\.(Statement|Tie|Lts[\w\-]*|Reads|Kinds)\b|^use borrow\.Fn|^use Rattle\.\w+\.proofs\.\+?[\w+]+(\.[\w+]+)*\.\{statement\}|borrow\.Author")
+    drop = re.compile(r"\.(Statement|Tie|Lts[\w\-]*|Reads|Kinds)\b|^use borrow\.Fn|^use Rattle\.\w+\.proofs\.\+?[\w+]+(\.[\w+]+)*\.\{statement\}")
     kept = [u for u in uses if u.strip() and not drop.search(u)]
     mod = module.replace("-", ".", 1).replace("-proofs", ".proofs", 1)
     comment = "\n".join(l for l in comments if l.strip())
