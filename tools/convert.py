@@ -47,22 +47,27 @@ def walk(path, module, names):
         moved = [v for v, c in zip(vs, flags) if c]
         loops[norm(ns[0])] = (ns[1], ["l." + v for v in still] + ["l.initial." + v for v in moved] + ["l." + v for v in moved])
 
-    arms = {}
-    for a in names.get("arms", []):
+    arms = []
+    for place, a in zip(names["places"], names.get("arms", [])):
         if a:
-            for kind, old, subs in a[2]:
-                if kind == "is":
-                    for s in subs:
-                        arms[(norm(old), norm(s))] = f"{a[0]}.is"
+            for new, old, subs in a[2]:
+                if subs:
+                    arms.append((len(subs), [norm(old)] + subs, f"{a[0]}.{new}"))
+                elif place[0].endswith("-rest"):
+                    arms.append((1, [norm(old), "rest"], f"{a[0]}.{new}.rest"))
+    arms.sort(key=lambda x: -x[0])
+    # the same path in two arms: told apart by hand, in the order of the places
+    ARMS = [(re.compile("".join(r"\." + "[-_]".join(map(re.escape, q.split("-"))) for q in path) + r"(?![\w\-'])"), new) for _, path, new in arms]
 
     def body(t):
         t = re.sub(r"(\.before)+(?![\w\-])", "", t)
-        t = re.sub(r"\.([A-Za-z_][\w\-']*)\.([A-Za-z_][\w\-']*)", lambda m: "." + arms[(norm(m.group(1)), norm(m.group(2)))] if (norm(m.group(1)), norm(m.group(2))) in arms else m.group(0), t)
+        for pat, new in ARMS:
+            t = pat.sub("." + new.replace("\\", "\\\\"), t)
         t = re.sub(r"\.taken\b", ".true", t)
         t = re.sub(r"\.left\b(?!-)", ".false", t)
         t = re.sub(r"\.inv\b(?![\-])", ".invariant", t)
 
-        t = re.sub(r"\bnot-(?:true|false) _ (?=[a-z(])", "", t)
+        t = re.sub(r"\beqb-(?:true|false) _ _ \(?(c\.[\w.\-']+\.(?:true|false))\)?(?![\w.\-'])", r"\1", t)
 
         def field(m):
             return "." + fields.get(norm(m.group(1)), m.group(1))
