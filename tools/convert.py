@@ -21,7 +21,7 @@ def chunks(text):
             head = cur[-1] if cur[-1].startswith("--") or cur[-1].startswith("unfolding ") else None
             name = re.match(r"^(?:abbrev |pub )*([^\s:]+)", line).group(1)
             prev = next((re.match(r"^(?:abbrev |pub )*([^\s:]+)", l).group(1) for l in cur if not l.startswith(("--", "unfolding "))), None)
-            if all(l.startswith("--") or not l.strip() for l in cur) or name == prev:
+            if all(l.startswith("--") or not l.strip() for l in cur) or (name == prev and name != "module"):
                 cur.append(line)
                 continue
             out.append(cur)
@@ -47,12 +47,27 @@ def walk(path, module, names):
         moved = [v for v, c in zip(vs, flags) if c]
         loops[norm(ns[0])] = (ns[1], ["l." + v for v in still] + ["l.initial." + v for v in moved] + ["l." + v for v in moved])
 
+    arms = []
+    for place, a in zip(names["places"], names.get("arms", [])):
+        if a:
+            for new, old, subs in a[2]:
+                if subs:
+                    arms.append((len(subs), [norm(old)] + subs, f"{a[0]}.{new}"))
+                elif place[0].endswith("-rest"):
+                    arms.append((1, [norm(old), "rest"], f"{a[0]}.{new}.rest"))
+    arms.sort(key=lambda x: -x[0])
+    # the same path in two arms: told apart by hand, in the order of the places
+    ARMS = [(re.compile("".join(r"\." + "[-_]".join(map(re.escape, q.split("-"))) for q in path) + r"(?![\w\-'])"), new) for _, path, new in arms]
+
     def body(t):
         t = re.sub(r"(\.before)+(?![\w\-])", "", t)
+        for pat, new in ARMS:
+            t = pat.sub("." + new.replace("\\", "\\\\"), t)
         t = re.sub(r"\.taken\b", ".true", t)
+        t = re.sub(r"\.left\b(?!-)", ".false", t)
         t = re.sub(r"\.inv\b(?![\-])", ".invariant", t)
 
-        t = re.sub(r"\bnot-(?:true|false) _ (?=[a-z(])", "", t)
+        t = re.sub(r"\beqb-(?:true|false) _ _ \(?(c\.[\w.\-']+\.(?:true|false))\)?(?![\w.\-'])", r"\1", t)
 
         def field(m):
             return "." + fields.get(norm(m.group(1)), m.group(1))
@@ -111,7 +126,85 @@ def walk(path, module, names):
             continue
         if re.match(r"^pub \+?[\w\-]+[_\-]spec ", first):
             continue
-        rest.append(body(joined))
+        rest.append(joined)
+    places, values, kept_rest = set(), {}, []
+    for r in rest:
+        m = re.match(r"^((?:--[^\n]*\n)*)module _ \((\w[\w']*) : (?:tie|[\w\-]*lts)\.[^()]*\) where\n(.*)$", r, re.S)
+        if not m:
+            kept_rest.append(body(r))
+            continue
+        var, block = m.group(2), m.group(3)
+        defs = re.split(r"\n(?=  (?:abbrev )?(?:pub )?[^\s:]+ : )", "\n" + block)
+        bad = []
+        for d in defs:
+            if not d.strip():
+                continue
+            d = re.sub(r"(?m)^\s*--.*\n?", "", d)
+            dm = re.match(r"^\s*(?:abbrev )?(?:pub )?([^\s:]+) : (.*?)\n\s*(?:unfolding [^\n]*\n\s*)?\1((?: [\w']+)*) = (.*)$", d.strip("\n"), re.S)
+            if not dm:
+                bad.append(d)
+                continue
+            name, ty, args, bd = dm.groups()
+            if args:
+                bd = "λ" + args + ". " + bd
+            if re.match(r"(?:tie|[\w\-]*lts)\.", ty):
+                places.add(name)
+            else:
+                one = lambda x: re.sub(r"(?<![\w.\-'])" + re.escape(var) + r"(?![\w\-'])", "c", body(x))
+                values[name] = (one(ty), one(bd).rstrip())
+        if bad:
+            kept_rest.append("-- BY HAND\n" + m.group(0).split("where")[0] + "where\n" + "\n".join(bad))
+    rest = kept_rest
+
+    def flat(b):
+        while True:
+            was = b
+            b = re.sub(r"(?<![\w.\-'])c c(?![\w\-'])", "c", b).replace("(c)", "c")
+            for pn in places:
+                b = re.sub(r"\((?<![\w.\-'])" + re.escape(pn) + r" c\)", "c", b)
+                b = re.sub(r"(?<![\w.\-'])" + re.escape(pn) + r" c(?![\w\-'])", "c", b)
+                b = re.sub(r"(?<![\w.\-'])" + re.escape(pn) + r"(?= *\.)", "c", b)
+                b = re.sub(r"(?<![\w.\-'])" + re.escape(pn) + r"(?=\.)", "c", b)
+                b = re.sub(r"(?<![\w.\-'])" + re.escape(pn) + r"(?![\w\-']| c\b| \(| [a-z]\w* =| [a-z]+ :)", "c", b)
+            for vn in values:
+                b = re.sub(r"\((?<![\w.\-'])" + re.escape(vn) + r" c\)", vn, b)
+                b = re.sub(r"(?<![\w.\-'])" + re.escape(vn) + r" c(?![\w\-'.])", vn, b)
+            m = re.search(r"let ([\w']+)(?: : (?:tie|[\w\-]*lts)\.[^=\n]*)? = c in\s*", b)
+            if m:
+                b = b[: m.start()] + b[m.end():]
+                b = re.sub(r"(?<![\w.\-'])" + re.escape(m.group(1)) + r"(?![\w\-'])", "c", b)
+            if b == was:
+                return b
+
+    for vn in list(values):
+        values[vn] = (flat(values[vn][0]), flat(values[vn][1]))
+
+    def word_in(w, b):
+        return re.search(r"(?<![\w.\-'])" + re.escape(w) + r"(?![\w\-'])", b)
+
+    def opened(answer):
+        if answer.startswith("-- BY HAND"):
+            return answer
+        head, eq, b = re.match(r"^(.*?\n)([^\n=]*?) = (.*)$", answer[answer.index("pub "):], re.S).groups()
+        b = flat(b).strip()
+        used, order = set(), []
+
+        def visit(n):
+            if n in used:
+                return
+            used.add(n)
+            for o in values:
+                if o != n and word_in(o, values[n][0] + " " + values[n][1]):
+                    visit(o)
+            order.append(n)
+
+        for n in values:
+            if word_in(n, b):
+                visit(n)
+        lets = "".join(f"    let {n} : {values[n][0].strip()} = {values[n][1].strip()} in\n" for n in order)
+        return answer[: answer.index("pub ")] + head + eq + (" =\n" + lets + "    " + b if lets else " = " + b)
+
+    answers = [opened(a) for a in answers]
     folder = os.path.dirname(path)
     drop = re.compile(r"\.(Statement|Tie|Lts[\w\-]*|Reads|Kinds)\b|^use borrow\.Fn|^use Rattle\.\w+\.proofs\.\+?[\w+]+(\.[\w+]+)*\.\{statement\}")
     kept = [u for u in uses if u.strip() and not drop.search(u)]
