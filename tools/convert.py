@@ -17,7 +17,7 @@ def norm(name):
 def chunks(text):
     out, cur = [], []
     for line in text.split("\n"):
-        if line and not line[0].isspace() and cur and not re.match(r"^(unfolding )", line):
+        if line and not line[0].isspace() and cur and not re.match(r"^(unfolding |[)])", line):
             head = cur[-1] if cur[-1].startswith("--") or cur[-1].startswith("unfolding ") else None
             name = re.match(r"^(?:abbrev |pub )*([^\s:]+)", line).group(1)
             prev = next((re.match(r"^(?:abbrev |pub )*([^\s:]+)", l).group(1) for l in cur if not l.startswith(("--", "unfolding "))), None)
@@ -36,6 +36,7 @@ def walk(path, module, names):
     with open(path, encoding="utf-8") as f:
         text = f.read()
     fields = {norm(p[2][0]): p[2][1] for p in names["places"] if p[2] and p[2][0]}
+    callees = {p[2][1]: p[3] for p in names["places"] if p[2] and p[3]}
     needs = {}
     for old, new in names["needs"]:
         needs[norm(old)] = new
@@ -43,9 +44,8 @@ def walk(path, module, names):
     loops = {}
     for k, (ns, vs) in enumerate(names["loops"]):
         flags = changed[k] if k < len(changed) else [False] * len(vs)
-        still = [v for v, c in zip(vs, flags) if not c]
         moved = [v for v, c in zip(vs, flags) if c]
-        loops[norm(ns[0])] = (ns[1], ["l." + v for v in still] + ["l.initial." + v for v in moved] + ["l." + v for v in moved])
+        loops[norm(ns[0])] = (ns[1], [("l.initial." if c else "l.") + v for v, c in zip(vs, flags)] + ["l." + v for v in moved])
 
     arms = []
     for place, a in zip(names["places"], names.get("arms", [])):
@@ -70,10 +70,23 @@ def walk(path, module, names):
         t = re.sub(r"\beqb-(?:true|false) _ _ \(?(c\.[\w.\-']+\.(?:true|false))\)?(?![\w.\-'])", r"\1", t)
 
         def field(m):
-            return "." + fields.get(norm(m.group(1)), m.group(1))
+            name = m.group(1)
+            if t[: m.start()].endswith(".args"):
+                return m.group(0)
+            for n in (name, name.lower(), re.sub(r"_lem$", "", name)):
+                if norm(n) in fields:
+                    return "." + fields[norm(n)]
+            return m.group(0)
 
         t = re.sub(r"\bnot-(?:true|false) _ (?=[a-z(])", "", t)
-        return re.sub(r"\.([A-Za-z_][\w\-']*)", field, t)
+        t = re.sub(r"\.([A-Za-z_][\w\-']*)", field, t)
+
+        def kept(m):
+            ps = names["params"].get(callees.get(m.group(1)), [])
+            k = m.group(2).count("1")
+            return f".{m.group(1)}.auto.{ps[k]}" if k < len(ps) else m.group(0)
+
+        return re.sub(r"\.([A-Za-z_][\w\-']*)\.auto((?:\.1)*)\.0(?![\w])", kept, t)
 
     uses, comments, invariants, answers, rest = [], [], [], [], []
     for c in chunks(text):
@@ -129,6 +142,12 @@ def walk(path, module, names):
         rest.append(joined)
     places, values, kept_rest = set(), {}, []
     for r in rest:
+        fm = re.match(r"^(?:--[^\n]*\n)*([\w\-']+) : \((\w+) : (?:tie|[\w\-]*lts)\.[^()]*\)\s*→ (.*?)\n\1 \2 =(.*)$", r, re.S)
+        if fm:
+            name, var, ty, bd = fm.groups()
+            one = lambda x: re.sub(r"(?<![\w.\-'])" + re.escape(var) + r"(?![\w\-'])", "c", body(x))
+            values[name] = (one(ty), one(bd).rstrip())
+            continue
         m = re.match(r"^((?:--[^\n]*\n)*)module _ \((\w[\w']*) : (?:tie|[\w\-]*lts)\.[^()]*\) where\n(.*)$", r, re.S)
         if not m:
             kept_rest.append(body(r))
