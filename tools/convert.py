@@ -21,7 +21,7 @@ def chunks(text):
             head = cur[-1] if cur[-1].startswith("--") or cur[-1].startswith("unfolding ") else None
             name = re.match(r"^(?:abbrev |pub )*([^\s:]+)", line).group(1)
             prev = next((re.match(r"^(?:abbrev |pub )*([^\s:]+)", l).group(1) for l in cur if not l.startswith(("--", "unfolding "))), None)
-            if all(l.startswith("--") or not l.strip() for l in cur) or name == prev:
+            if all(l.startswith("--") or not l.strip() for l in cur) or (name == prev and name != "module"):
                 cur.append(line)
                 continue
             out.append(cur)
@@ -47,21 +47,27 @@ def walk(path, module, names):
         moved = [v for v, c in zip(vs, flags) if c]
         loops[norm(ns[0])] = (ns[1], ["l." + v for v in still] + ["l.initial." + v for v in moved] + ["l." + v for v in moved])
 
-    arms = {}
-    for a in names.get("arms", []):
+    arms = []
+    for place, a in zip(names["places"], names.get("arms", [])):
         if a:
-            for kind, old, subs in a[2]:
-                if kind == "is":
-                    for s in subs:
-                        arms[(norm(old), norm(s))] = f"{a[0]}.is"
+            for new, old, subs in a[2]:
+                if subs:
+                    arms.append((len(subs), [norm(old)] + subs, f"{a[0]}.{new}"))
+                elif place[0].endswith("-rest"):
+                    arms.append((1, [norm(old), "rest"], f"{a[0]}.{new}.rest"))
+    arms.sort(key=lambda x: -x[0])
+    # the same path in two arms: told apart by hand, in the order of the places
+    ARMS = [(re.compile("".join(r"\." + "[-_]".join(map(re.escape, q.split("-"))) for q in path) + r"(?![\w\-'])"), new) for _, path, new in arms]
 
     def body(t):
         t = re.sub(r"(\.before)+(?![\w\-])", "", t)
-        t = re.sub(r"\.([A-Za-z_][\w\-']*)\.([A-Za-z_][\w\-']*)", lambda m: "." + arms[(norm(m.group(1)), norm(m.group(2)))] if (norm(m.group(1)), norm(m.group(2))) in arms else m.group(0), t)
+        for pat, new in ARMS:
+            t = pat.sub("." + new.replace("\\", "\\\\"), t)
         t = re.sub(r"\.taken\b", ".true", t)
+        t = re.sub(r"\.left\b(?!-)", ".false", t)
         t = re.sub(r"\.inv\b(?![\-])", ".invariant", t)
 
-        t = re.sub(r"\bnot-(?:true|false) _ (?=[a-z(])", "", t)
+        t = re.sub(r"\beqb-(?:true|false) _ _ \(?(c\.[\w.\-']+\.(?:true|false))\)?(?![\w.\-'])", r"\1", t)
 
         def field(m):
             return "." + fields.get(norm(m.group(1)), m.group(1))
@@ -134,11 +140,13 @@ def walk(path, module, names):
             if not d.strip():
                 continue
             d = re.sub(r"(?m)^\s*--.*\n?", "", d)
-            dm = re.match(r"^\s*(?:abbrev )?(?:pub )?([^\s:]+) : (.*?)\n\s*(?:unfolding [^\n]*\n\s*)?\1 = (.*)$", d.strip("\n"), re.S)
+            dm = re.match(r"^\s*(?:abbrev )?(?:pub )?([^\s:]+) : (.*?)\n\s*(?:unfolding [^\n]*\n\s*)?\1((?: [\w']+)*) = (.*)$", d.strip("\n"), re.S)
             if not dm:
                 bad.append(d)
                 continue
-            name, ty, bd = dm.groups()
+            name, ty, args, bd = dm.groups()
+            if args:
+                bd = "λ" + args + ". " + bd
             if re.match(r"(?:tie|[\w\-]*lts)\.", ty):
                 places.add(name)
             else:
@@ -151,11 +159,13 @@ def walk(path, module, names):
     def flat(b):
         while True:
             was = b
+            b = re.sub(r"(?<![\w.\-'])c c(?![\w\-'])", "c", b).replace("(c)", "c")
             for pn in places:
                 b = re.sub(r"\((?<![\w.\-'])" + re.escape(pn) + r" c\)", "c", b)
                 b = re.sub(r"(?<![\w.\-'])" + re.escape(pn) + r" c(?![\w\-'])", "c", b)
                 b = re.sub(r"(?<![\w.\-'])" + re.escape(pn) + r"(?= *\.)", "c", b)
                 b = re.sub(r"(?<![\w.\-'])" + re.escape(pn) + r"(?=\.)", "c", b)
+                b = re.sub(r"(?<![\w.\-'])" + re.escape(pn) + r"(?![\w\-']| c\b| \(| [a-z]\w* =| [a-z]+ :)", "c", b)
             for vn in values:
                 b = re.sub(r"\((?<![\w.\-'])" + re.escape(vn) + r" c\)", vn, b)
                 b = re.sub(r"(?<![\w.\-'])" + re.escape(vn) + r" c(?![\w\-'.])", vn, b)

@@ -1,0 +1,16 @@
+-- `scanner::in_line::value` meets its contract. Assumes nothing.
+use Rattle.scanner.proofs.Numbers.{answered}
+use Rattle.scanner.proofs.Scalars as scalars
+use Rattle.scanner.proofs.in_line.value.Goals as goal
+
+pub or_scalar-requires : goal.or_scalar-requires
+or_scalar-requires c = scalars.tag_as _ _ _ _ c.in-105.is c.unsigned.ensures
+
+pub or_scalar-requires-in-100 : goal.or_scalar-requires-in-100
+or_scalar-requires-in-100 c = scalars.tag_as _ _ _ _ c.in-100.is c.plain.ensures
+
+pub returns-in-78 : goal.returns-in-78
+returns-in-78 c = answered (scalars.scalar-null _ _ _ _ c.in-78.is c.null.ensures.scans)
+
+pub returns-in_default : goal.returns-in_default
+returns-in_default c = scalars.made c.anew.ensures c.scalar.ensures
