@@ -1,7 +1,23 @@
 // A line and its parts. A part is named by the number of spaces before it.
-ghost use Rattle.std.specs.Prelude.{◌≤◌, length};
+ghost use Rattle.std.specs.Prelude.{◌≡◌, ◌≢◌, ℕ, ◌<◌, ◌≤◌, length, slice_index};
 
-use bytes::scan::find;
+// The index of the first such byte from an index on, or the line's length where there is none.
+pub(crate) fn find(line: &[u8], from: usize, byte: u8) -> usize
+    requires { from ≤ length line.now }
+    ensures after { from ≤ result }
+    ensures within { result ≤ length line.now }
+    ensures before { (k : ℕ) → from ≤ k → k < result → slice_index line.now k ≢ byte }
+    ensures found { result < length line.now → slice_index line.now result ≡ byte }
+{
+    let mut i = from;
+    while i < line.len() {
+        if line[i] == byte {
+            return i;
+        }
+        i += 1;
+    }
+    i
+}
 
 // A part with all that stands behind it.
 pub(crate) fn part(line: &[u8], spaces: usize) -> &[u8] {
@@ -22,7 +38,7 @@ pub(crate) fn part(line: &[u8], spaces: usize) -> &[u8] {
 // A part up to the next space.
 pub(crate) fn field(line: &[u8], spaces: usize) -> &[u8] {
     let rest = part(line, spaces);
-    let end = find(rest, 0, rest.len(), b' ');
+    let end = find(rest, 0, b' ');
     &rest[0..end]
 }
 
@@ -50,8 +66,9 @@ fn append(text: &[u8], buffer: &mut [u8], to: usize) -> usize
     if buffer.len() - to < text.len() {
         return to;
     }
-    bytes::copy(text, &mut buffer[to..]);
-    to + text.len()
+    let end = to + text.len();
+    buffer[to..end].copy_from_slice(text);
+    end
 }
 
 // The same with a text so many times: `[`, how many times, a space, the text.
@@ -77,9 +94,9 @@ pub(crate) fn expand(line: &[u8], buffer: &mut [u8]) -> usize
     let mut end = 0;
     let mut at = 0;
     while at < line.len() {
-        let open = find(line, at, line.len(), b'[');
+        let open = find(line, at, b'[');
         end = append(&line[at..open], buffer, end);
-        let close = find(line, open, line.len(), b']');
+        let close = find(line, open, b']');
         if close == line.len() {
             return end;
         }

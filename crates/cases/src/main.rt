@@ -14,19 +14,22 @@
 // then the words behind those up to the last that is not as it was, a line for each node, with its index. Before a call every word and
 // byte, those behind the lent ones too, holds what no call writes (memory.rt), and what is not printed holds it still: no wrong word or
 // byte leaves the text as it is.
+//
+// A read or a write that fails ends it with that error, on the standard error, and status 1.
 #![tactic(auto)]
 
-use crate::line::{expand, field, lent, number, part};
+ghost use Rattle.std.specs.Prelude.{◌≤◌, length, IfOk};
+
+use crate::line::{expand, field, find, lent, number, part};
 use crate::memory::hold;
 use crate::report::{print, print_output, print_reading, print_table, print_writing};
-use bytes::scan::find;
-use libc::STDIN_FILENO;
+use std::io::{self, Read};
 
 mod line;
 mod memory;
 mod report;
 
-fn insert(line: &[u8], table: &mut [u64], out: &mut [u8]) {
+fn insert(rt: &impl Print, line: &[u8], table: &mut [u64], out: &mut [u8]) -> io::Result<()> {
     let writing = editor::insert(
         part(line, 7),
         number(line, 3),
@@ -36,56 +39,84 @@ fn insert(line: &[u8], table: &mut [u64], out: &mut [u8]) {
         table,
         out,
     );
-    print_writing(writing);
+    print_writing(rt, writing)
 }
 
 // Table and output are what is lent.
-fn call(letter: u8, line: &[u8], table: &mut [u64], out: &mut [u8]) {
+fn call(
+    rt: &impl Print,
+    letter: u8,
+    line: &[u8],
+    table: &mut [u64],
+    out: &mut [u8],
+) -> io::Result<()> {
     match letter {
-        b'r' => print_reading(reader::read(part(line, 2), table)),
-        b'c' => print_writing(editor::canonicalize(part(line, 3), table, out)),
-        _ => insert(line, table, out),
+        b'r' => print_reading(rt, reader::read(part(line, 2), table)),
+        b'c' => print_writing(rt, editor::canonicalize(part(line, 3), table, out)),
+        _ => insert(rt, line, table, out),
     }
 }
 
 // At most half is lent, so that something always stands behind.
-fn run_call(letter: u8, line: &[u8], table: &mut [u64], out: &mut [u8]) {
+fn run_call(
+    rt: &impl Print,
+    letter: u8,
+    line: &[u8],
+    table: &mut [u64],
+    out: &mut [u8],
+) -> io::Result<()> {
     let words = lent(line, 1, table.len() / 2);
     let bytes = lent(line, 2, out.len() / 2);
-    call(letter, line, &mut table[0..words], &mut out[0..bytes]);
-    print_output(out);
-    print_table(table);
+    call(rt, letter, line, &mut table[0..words], &mut out[0..bytes])?;
+    print_output(rt, out)?;
+    print_table(rt, table)
 }
 
-fn run_line(letter: u8, line: &[u8]) {
+fn run_line(rt: &impl Print, letter: u8, line: &[u8]) -> io::Result<()> {
     // A line may have a longer plan than is accepted.
     let mut buffer = [0u8; 70000];
     let mut table = [0u64; 1600];
     let mut out = [0u8; 1400];
     hold(&mut table, &mut out);
     let size = expand(line, &mut buffer);
-    run_call(letter, &buffer[0..size], &mut table, &mut out);
+    run_call(rt, letter, &buffer[0..size], &mut table, &mut out)
 }
 
-fn run_lines(source: &[u8]) {
+fn run_lines(rt: &impl Print, source: &[u8]) -> io::Result<()> {
     let mut at = 0;
     while at < source.len() {
-        let end = find(source, at, source.len(), b'\n');
+        let end = find(source, at, b'\n');
         if end == source.len() {
-            return;
+            return Ok(());
         }
-        print(&source[at..end + 1]);
+        print(rt, &source[at..end + 1])?;
         let letter = source[at];
         match letter {
-            b'r' | b'c' | b'i' => run_line(letter, &source[at..end]),
+            b'r' | b'c' | b'i' => run_line(rt, letter, &source[at..end])?,
             _ => {}
         }
         at = end + 1;
     }
+    Ok(())
 }
 
-fn main() {
-    let mut source = io::large_buffer();
-    let size = io::read_full(STDIN_FILENO, &mut source);
-    run_lines(&source[..size]);
+// Reads until the buffer is full or the input ends, and tells how many bytes it put at the buffer's start.
+fn read_full<R: Read>(input: &mut R, buffer: &mut [u8]) -> io::Result<usize>
+    ensures { IfOk result (λ size. size ≤ length buffer.new) }
+{
+    let mut done = 0;
+    while done < buffer.len() {
+        let size = input.read(&mut buffer[done..])?;
+        if size == 0 {
+            break;
+        }
+        done += size;
+    }
+    Ok(done)
+}
+
+fn main(rt: HostRuntime) -> io::Result<()> {
+    let mut source = [0u8; 65536];
+    let size = read_full(&mut rt.stdin(), &mut source)?;
+    run_lines(&rt, &source[..size])
 }

@@ -4,37 +4,37 @@ ghost use Rattle.std.specs.Prelude.{◌≤◌, length};
 use crate::memory::{held_byte, held_word};
 use editor::Writing;
 use format::table::WIDTH;
-use libc::STDOUT_FILENO;
 use reader::Reading;
+use std::io;
 
-pub(crate) fn print(text: &[u8]) {
-    io::write_all(STDOUT_FILENO, text);
+pub(crate) fn print(rt: &impl Print, text: &[u8]) -> io::Result<()> {
+    rt.write_all(text)
 }
 
-fn print_number(before: &[u8], n: u64) {
-    print(before);
-    io::print_decimal(STDOUT_FILENO, n);
+fn print_number(rt: &impl Print, before: &[u8], n: u64) -> io::Result<()> {
+    print(rt, before)?;
+    print!(rt; "{n}")
 }
 
-fn print_refusal(code: u8, at: usize) {
-    print_number(b"    refused ", code as u64);
-    print_number(b" at ", at as u64);
+fn print_refusal(rt: &impl Print, code: u8, at: usize) -> io::Result<()> {
+    print_number(rt, b"    refused ", code as u64)?;
+    print_number(rt, b" at ", at as u64)
 }
 
-pub(crate) fn print_reading(reading: Reading) {
+pub(crate) fn print_reading(rt: &impl Print, reading: Reading) -> io::Result<()> {
     match reading {
         Reading::Accepted { nodes, ordinals } => {
-            print_number(b"    nodes ", nodes as u64);
-            print_number(b", ordinals ", ordinals as u64);
+            print_number(rt, b"    nodes ", nodes as u64)?;
+            print_number(rt, b", ordinals ", ordinals as u64)
         }
-        Reading::Refused { code, at } => print_refusal(code, at),
+        Reading::Refused { code, at } => print_refusal(rt, code, at),
     }
 }
 
-pub(crate) fn print_writing(writing: Writing) {
+pub(crate) fn print_writing(rt: &impl Print, writing: Writing) -> io::Result<()> {
     match writing {
-        Writing::Written { length } => print_number(b"    length ", length as u64),
-        Writing::Refused { code, at } => print_refusal(code, at),
+        Writing::Written { length } => print_number(rt, b"    length ", length as u64),
+        Writing::Refused { code, at } => print_refusal(rt, code, at),
     }
 }
 
@@ -52,13 +52,14 @@ fn output_end(out: &[u8]) -> usize
     end
 }
 
-pub(crate) fn print_output(out: &[u8]) {
+pub(crate) fn print_output(rt: &impl Print, out: &[u8]) -> io::Result<()> {
     let end = output_end(out);
     if 0 < end {
-        print_number(b", wrote ", end as u64);
-        print(b": ");
-        print(&out[0..end]);
+        print_number(rt, b", wrote ", end as u64)?;
+        print(rt, b": ")?;
+        print(rt, &out[0..end])?;
     }
+    Ok(())
 }
 
 // How many words, from the first on, are zero.
@@ -87,19 +88,19 @@ fn table_end(table: &[u64]) -> usize
     end
 }
 
-pub(crate) fn print_table(table: &[u64]) {
+pub(crate) fn print_table(rt: &impl Print, table: &[u64]) -> io::Result<()> {
     let end = table_end(table);
     let mut i = zeros(table);
     if 0 < i {
-        print_number(b", zeros ", i as u64);
+        print_number(rt, b", zeros ", i as u64)?;
     }
     while i < end {
         if i % WIDTH == 0 {
-            print_number(b"\n    ", (i / WIDTH) as u64);
-            print(b":");
+            print_number(rt, b"\n    ", (i / WIDTH) as u64)?;
+            print(rt, b":")?;
         }
-        print_number(b" ", table[i]);
+        print_number(rt, b" ", table[i])?;
         i += 1;
     }
-    print(b"\n");
+    print(rt, b"\n")
 }
