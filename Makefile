@@ -18,8 +18,6 @@ CARGO := RUSTFLAGS=-Dwarnings CARGO_TARGET_DIR=$(BUILD)/cargo TONSCHNECKE_LIB_DI
 LIBRARIES := $(patsubst crates/%/src/lib.rt,%,$(wildcard crates/*/src/lib.rt))
 SOURCES = $(wildcard $(foreach part,src specs proofs,$(LIBRARIES:%=crates/%/$(part))))
 PROGRAMS := $(patsubst crates/%/src/main.rt,%,$(wildcard crates/*/src/main.rt))
-# one more than the cores: a prover waits now and then; a small crate's edits take an eighth less time so
-JOBS := $(shell echo $$(($$(nproc) + 1)))
 PREFIX ?= /usr/local
 DESTDIR ?=
 VERSION := $(shell sed -n 's/^version = "\(.*\)"$$/\1/p' rust/Cargo.toml)
@@ -42,12 +40,11 @@ $(ARCHIVE): $(PROVED) $(BUILD)/sources-c
 	@cp $(PROVED) $@
 	@ar rcs $@ $(BUILD)/c/*.o
 
-# rt staticlib proves what tonschnecke stands on one crate at a time, rt check several at once
+# rt lib proves what tonschnecke stands on, the lowest first, and builds the archive
 $(PROVED): $(BUILD)/sources
-	@echo 'Proving the library, crate by crate: two to three minutes from nothing on two cores. build/prove.log has the details.'
-	@tools/rt.sh build/prove.log check $(filter-out tonschnecke,$(LIBRARIES))
-	@tools/rt.sh build/archive.log staticlib tonschnecke
-	@cp target/staticlib/libtonschnecke.a $@
+	@echo 'Proving the library, crate by crate. build/prove.log has the details.'
+	@tools/rt.sh build/prove.log crates/tonschnecke lib
+	@cp crates/tonschnecke/out/libtonschnecke.a $@
 
 # the kit or the compiler, and the sums of what it gets: written anew only where something changed, and then what is made of it is
 # too old
@@ -64,10 +61,14 @@ command: needed archive
 	@$(CARGO) build --quiet --release --manifest-path rust/Cargo.toml
 	@install -m 755 $(BUILD)/cargo/release/tonschnecke $(BUILD)/tonschnecke
 
-# proved, linked and run
+# proved, linked and run: what a program prints for its file stdin is its file stdout
 programs: needed
-	@echo 'Proving the programs: about half a minute from nothing on two cores, a second where nothing changed. build/programs.log has the details.'
-	@tools/rt.sh build/programs.log check $(PROGRAMS)
+	@echo 'Proving the programs. build/prove-nodes.log and the like have the details.'
+	@set -o pipefail; for program in $(PROGRAMS); do \
+	    folder=crates/$$program; \
+	    tools/rt.sh build/prove-$$program.log $$folder run < $$folder/stdin || exit 1; \
+	    $$folder/out/$$program < $$folder/stdin | cmp - $$folder/stdout || exit 1; \
+	done
 
 run: command
 	@examples/run.sh
@@ -94,17 +95,17 @@ fuzz: needed archive
 bench: needed archive
 	$(CARGO) run --quiet --profile measure --manifest-path bench/Cargo.toml $(if $(ROUNDS),-- --rounds $(ROUNDS))
 
-# rt ci starts from nothing; what it proved is not proved again for the tests, whose archive is made of it. Its last line, the
-# verdict, is printed last.
+# rt ci is the verdict on every crate, edit and program: its last line is printed last. An edit that cannot be applied or read
+# fails nothing there, so it fails here. The archive under test is built after it, of the same files.
 test: needed
-	rt fmt --check
-	@echo 'Proving every crate from nothing and trying every edit: twelve to fifteen minutes on two cores. build/ci.log has the details.'
-	@RT_JOBS=$(JOBS) tools/rt.sh build/ci.log ci || { tail -n 1 build/ci.log; exit 1; }
+	@echo 'Running rt ci: what it proved of the same files on this machine before is not proved again. build/ci.log has the details.'
+	@tools/rt.sh build/ci.log . ci || { tail -n 1 build/ci.log; exit 1; }
+	@tools/bad.sh build/ci.log
 	@rm -f $(PROVED)
 	$(MAKE) --no-print-directory compare
 	@tail -n 1 build/ci.log
 
-# more wrong programs than the gate tries, over the incremental check
+# more wrong programs than the gate tries, each over what a check of its crate kept
 wrong: needed
 	tools/wrong.sh
 
@@ -122,4 +123,4 @@ uninstall:
 	rm -f $(foreach file,$(INSTALLED),"$(DESTDIR)$(PREFIX)/$(file)")
 
 clean:
-	rm -rf target $(BUILD)
+	rm -rf $(BUILD) crates/*/out

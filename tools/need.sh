@@ -22,7 +22,7 @@ need() {
 
 for tool in "$@"; do
     case $tool in
-        rt) need rt 5 'It proves the library and compiles it: put the folder bin/ of the Rattle kit, rattle-kit-5, on the PATH.' ;;
+        rt) need rt 13 'It proves the library and compiles it: put the folder bin/ of the Rattle kit, rattle-kit-13f, on the PATH.' ;;
         cargo) need cargo "$rust" "It builds the command and the tests: install Rust $rust or newer, as https://rustup.rs tells." ;;
         gcc) need gcc 0 'It compiles what of the library is C, and links the command: apt-get install gcc libc6-dev' ;;
     esac

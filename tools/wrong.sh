@@ -1,7 +1,7 @@
 #!/usr/bin/env bash
-# Tries the wrong programs and definitions of crates/*/wrong, each over the incremental check of its crate, in a copy of the
-# tree: target/wrong. Before a crate's edits the unedited crate must pass. An edit is written as one of must-fail/ is.
-# A refusal here is no verdict: the incremental check trusts what it kept. The gate's verdict is that of must-fail/.
+# Tries the wrong programs and definitions of crates/*/wrong as `rt must-fail` tries those of must-fail/, in a copy of the tree where they stand there.
+# Before a crate's edits the unedited crate must pass. The copy stands outside of the tree, since `rt ci` refuses another one inside.
+# A refusal here is no verdict: each edit is tried over what a check kept. The gate's verdict is that of must-fail/.
 # Use: tools/wrong.sh [--fit] [CRATE...]; with --fit it only sees whether each edit can be applied still, and asks no prover.
 set -euo pipefail
 cd "$(dirname "$0")/.."
@@ -11,10 +11,10 @@ if [ "${1-}" = --fit ]; then
     fit=yes
     shift
 fi
-copy=target/wrong
-log=$copy/last.log
-tried=0
-failed=0
+[ $# -gt 0 ] || set -- $(cd crates && ls -d */wrong | cut -d/ -f1)
+log=build/wrong.log
+copy=$(mktemp -d)
+trap 'rm -rf "$copy"' EXIT
 
 # Applies an edit to the copy of its crate: `old:` texts stand exactly once in their file.
 apply() { # CRATE EDIT
@@ -33,56 +33,40 @@ apply() { # CRATE EDIT
     done <"$2"
 }
 
-check() { # CRATE
-    (cd "$copy" && rt dev "$1") >"$log" 2>&1
-}
-
 # What an edit changed in the copy of its crate is the tree's again.
 restore() { # CRATE EDIT
     local file
     while IFS= read -r file; do cp -p "crates/$1/$file" "$copy/crates/$1/$file"; done < <(sed -n 's/^file: //p' "$2")
 }
 
-try() { # CRATE EDIT
-    local name=$1/$(basename "$2" .edit) began=$SECONDS first
-    tried=$((tried + 1))
-    if ! apply "$1" "$2"; then
-        echo "$name: BAD EDIT: an 'old:' text does not stand exactly once in its file"
-    elif [ $fit = yes ]; then
-        restore "$1" "$2"
-        return
-    elif check "$1"; then
-        echo "$name: NOT REFUSED"
-    elif ! grep -q '^logic=not-proved' "$log"; then
-        echo "$name: BAD EDIT: it did not reach the prover"
-    else
-        first=$(grep -m 1 -o '^[^ ]*: error: `[^`]*`' "$log" | sed 's|.*/crates/[^/]*/||') || true
-        echo "$name: refused ($((SECONDS - began)) s) $first"
-        restore "$1" "$2"
-        return
-    fi
-    failed=$((failed + 1))
-    restore "$1" "$2"
-}
+tar -c --exclude='crates/*/out' crates crates.txt $(ls HANDLES 2>/dev/null || true) | tar -x -C "$copy"
 
-mkdir -p "$copy/target"
-rm -rf "$copy/crates"
-cp -a crates crates.txt "$copy"
-# what the tree has proved is not proved again
-for proved in rlib stamp; do
-    if [ $fit = no ] && [ -d "target/$proved" ]; then
-        rm -rf "$copy/target/$proved"
-        cp -a "target/$proved" "$copy/target"
-    fi
-done
-[ $# -gt 0 ] || set -- $(cd crates && ls -d */wrong | cut -d/ -f1)
-for crate; do
-    [ $fit = yes ] || check "$crate" || { tail -n 5 "$log"; echo "$crate: the unedited crate is not proved"; exit 1; }
-    for edit in crates/"$crate"/wrong/*.edit; do try "$crate" "$edit"; done
-done
 if [ $fit = yes ]; then
+    tried=0 failed=0
+    for crate; do
+        for edit in crates/"$crate"/wrong/*.edit; do
+            tried=$((tried + 1))
+            if ! apply "$crate" "$edit"; then
+                echo "$crate/$(basename "$edit" .edit): BAD EDIT: an 'old:' text does not stand exactly once in its file"
+                failed=$((failed + 1))
+            fi
+            restore "$crate" "$edit"
+        done
+    done
     echo "wrong: $tried edits, of which $failed cannot be applied"
-else
-    echo "$tried wrong programs tried, $failed not refused; a refusal here is no verdict"
+    [ "$failed" -eq 0 ]
+    exit
 fi
-[ "$failed" -eq 0 ]
+
+rm -rf "$copy"/crates/*/must-fail
+for crate; do
+    tools/rt.sh "build/wrong-$crate.log" "$copy/crates/$crate" check || { echo "$crate: the unedited crate is not proved"; exit 1; }
+    mkdir "$copy/crates/$crate/must-fail"
+    cp "crates/$crate/wrong"/*.edit "$copy/crates/$crate/must-fail"
+done
+status=0
+tools/rt.sh $log "$copy" must-fail "$@" || status=$?
+tried=$(grep -c '^rt: must-fail ' $log || true)
+refused=$(grep -c '^rt: must-fail [^:]*: refused, ' $log || true)
+echo "$tried wrong programs tried, $((tried - refused)) not refused; a refusal here is no verdict"
+[ "$status" -eq 0 ] && [ "$tried" -eq "$refused" ] && [ "$tried" -eq "$(for crate; do ls "crates/$crate/wrong"/*.edit; done | wc -l)" ]

@@ -4,8 +4,8 @@
 set -eu
 cd "$(dirname "$0")/../.."
 
-others=$(grep -rn 'Rattle·reader\.' crates --include='*.antt' --include='*.rt' |
-    grep -v -e 'Rattle·reader\.specs\.Promise\b' -e 'Rattle·reader\.specs\.declared\.Reading\b' -e 'Rattle·reader\.proofs\.Promised\b' || true)
+others=$(grep -rn 'Rattle\.reader\.' crates --exclude-dir=out --include='*.antt' --include='*.rt' |
+    grep -v -e '^crates/reader/' -e 'Rattle\.reader\.specs\.Promise\b' -e 'Rattle\.reader\.specs\.declared\.Reading\b' -e 'Rattle\.reader\.proofs\.Promised\b' || true)
 if [ -n "$others" ]; then
     echo 'named above the reader, and not part of its promise:'
     echo "$others"

@@ -11,18 +11,31 @@ unset MAKEFLAGS MAKELEVEL
 mkdir "$scratch/bin"
 cat > "$scratch/bin/rt" <<'END'
 #!/bin/sh
-[ "${1#--}" = version ] || echo "rt $1" >> calls
+here=$PWD
+[ "${1#--}" = version ] || echo "rt $1 ${here#"$PROJECT"}" >> "$PROJECT/calls"
 case $1 in
-    version | --version) echo rattle-kit-5 ;;
-    staticlib)
-        mkdir -p target/staticlib && cd target/staticlib && cat ../../crates/*/src/* > tonschnecke.o
-        rm -f libtonschnecke.a && ar rc libtonschnecke.a tonschnecke.o ;;
-    check | ci)
+    version | --version) echo rattle-kit-13f ;;
+    lib | run)
+        name=$(basename "$here")
+        echo "rt: chose --jobs 2 for $name"
+        echo 'fn of_a_crate: proved'
+        [ ! -e "$PROJECT/unproved" ] || echo 'of_a_crate.rt:1:1: error: not so'
+        echo "crate $name: modules loaded=0 checked=7"
+        [ -e "$PROJECT/unproved" ] && echo 'logic=not-proved functions=1' && exit 1
+        echo 'logic=proved functions=1'
+        mkdir -p out && cd out
+        case $1 in
+            lib) cat ../../*/src/* > tonschnecke.o && rm -f libtonschnecke.a && ar rc libtonschnecke.a tonschnecke.o ;;
+            run) printf '#!/bin/sh\ncat\n' > "$name" && chmod +x "$name" && "./$name" ;;
+        esac ;;
+    ci)
         echo 'fn of_a_crate: proved'
         [ ! -e unproved ] || echo 'of_a_crate.rt:1:1: error: not so'
-        echo 'rt: a crate, in some seconds'
-        if [ "$1" = ci ]; then if [ -e unproved ]; then echo '6 passed, 1 failed'; else echo '7 passed, 0 failed'; fi; fi
-        [ ! -e unproved ] ;;
+        echo 'rt: a crate proved'
+        if [ -e unproved ]; then echo '6 passed, 1 failed'; exit 1; fi
+        [ ! -e bad ] || echo 'rt: must-fail format/an.edit: BAD EDIT: it changes nothing'
+        [ -e unsaid ] || echo "rt: ok; handles allowed: none; must-fail edits: 3 refused, 1 of them only by a limit$(cat bad 2> /dev/null); done in this run: 2 of the 3 proofs"
+        echo '7 passed, 0 failed' ;;
 esac
 END
 cat > "$scratch/bin/cargo" <<'END'
@@ -39,6 +52,7 @@ chmod +x "$scratch/bin/rt" "$scratch/bin/cargo"
 PATH=$scratch/bin:$PATH
 
 project=$scratch/project
+export PROJECT=$project
 mkdir -p "$project"/crates/{tonschnecke,format,nodes}/src "$project"/crates/format/{proofs,must-fail} "$project"/{c,include,examples,rust,tests/programs}
 cp -r Makefile tools "$project"
 cp rust/Cargo.toml "$project/rust"
@@ -46,7 +60,8 @@ cd "$project"
 echo library | tee crates/{tonschnecke,format}/src/lib.rt crates/format/proofs/Lib.antt > crates/nodes/src/main.rt
 echo '#define CODE 7' > include/tonschnecke.h
 printf '#include "tonschnecke.h"\nextern int ton_code;\nint ton_code = CODE;\n' > c/code.c
-printf 'format:\ntonschnecke: format\nnodes: format\n' > crates.txt
+printf 'format:\ntonschnecke staticlib: format\nnodes: format\n' > crates.txt
+echo a plan | tee crates/nodes/stdin > crates/nodes/stdout
 printf '#!/bin/sh\necho "the main job"\n' > examples/run.sh
 printf '#!/bin/sh\n' > tests/programs/none.sh
 chmod +x examples/run.sh tests/programs/none.sh
@@ -65,7 +80,7 @@ expect() {
     : > calls
     printed=$(make $2 2>&1) || status=$?
     equal "$1, status" "$status" "$3"
-    equal "$1, calls of rt" "$(sed 's/^rt //' calls | tr '\n' ' ')" "$4"
+    equal "$1, calls of rt" "$(sed 's/^rt //; s| /crates/| |; s/ $//' calls | tr '\n' ' ')" "$4"
 }
 
 last() {
@@ -74,7 +89,7 @@ last() {
 
 # Is the archive made of what rt made and of what is C: why.
 expect_archive() {
-    equal "$1, what is proved in the archive" "$(ar p build/libtonschnecke.a tonschnecke.o)" "$(cat target/staticlib/tonschnecke.o)"
+    equal "$1, what is proved in the archive" "$(ar p build/libtonschnecke.a tonschnecke.o)" "$(cat crates/tonschnecke/out/tonschnecke.o)"
     mkdir compiled
     for file in c/*.c; do gcc -std=c99 -O2 -fPIC -Iinclude -c "$file" -o "compiled/$(basename "$file" .c).o"; done
     equal "$1, the archive" "$(ar t build/libtonschnecke.a)" $'tonschnecke.o\n'"$(cd compiled && ls)"
@@ -82,25 +97,31 @@ expect_archive() {
     rm -r compiled
 }
 
-expect 'from nothing' run 0 'check staticlib '
-equal 'lines before the main job' "$(printf '%s\n' "$printed" | tail -n +2)" $'rt: a crate, in some seconds\nthe main job'
-equal 'the log' "$(cat build/prove.log)" $'fn of_a_crate: proved\nrt: a crate, in some seconds'
+expect 'from nothing' run 0 'lib tonschnecke '
+equal 'lines before the main job' "$(printf '%s\n' "$printed" | tail -n +2 | sed 's/ in [0-9]* s$//')" $'rt: tonschnecke: proved,\nthe main job'
+equal 'the log' "$(cat build/prove.log)" \
+    $'rt: chose --jobs 2 for tonschnecke\nfn of_a_crate: proved\ncrate tonschnecke: modules loaded=0 checked=7\nlogic=proved functions=1'
 expect_archive 'from nothing'
 expect 'nothing changed' run 0 ''
 equal 'nothing changed, printed' "$printed" 'the main job'
-expect 'the programs, which are missing still' all 0 'check '
+expect 'the programs, which are missing still' all 0 'run nodes '
+equal 'the programs, printed' "$(last 1 | sed 's/ in [0-9]* s$//')" 'rt: nodes: proved,'
+echo another plan > crates/nodes/stdout
+expect 'a program that prints something else' all 2 'run nodes '
+equal 'a program that prints something else, the error' "$(printf '%s\n' "$printed" | grep -c 'crates/nodes/stdout differ')" 1
+cp crates/nodes/stdin crates/nodes/stdout
 
 echo changed > crates/format/proofs/Lib.antt
-expect 'a changed file' run 0 'check staticlib '
+expect 'a changed file' run 0 'lib tonschnecke '
 mkdir crates/format/specs
 echo new > crates/format/specs/New.antt
-expect 'a new file' run 0 'check staticlib '
+expect 'a new file' run 0 'lib tonschnecke '
 rm crates/format/specs/New.antt
-expect 'a removed file' run 0 'check staticlib '
+expect 'a removed file' run 0 'lib tonschnecke '
 mv crates/format/proofs/Lib.antt crates/format/proofs/Other.antt
-expect 'a renamed file' run 0 'check staticlib '
+expect 'a renamed file' run 0 'lib tonschnecke '
 echo 'io:' >> crates.txt
-expect 'another crates.txt' run 0 'check staticlib '
+expect 'another crates.txt' run 0 'lib tonschnecke '
 touch crates/format/src/lib.rt
 echo edit > crates/format/must-fail/an.edit
 echo changed > crates/nodes/src/main.rt
@@ -133,23 +154,36 @@ touch unproved
 expect 'a broken proof that nothing asks for' run 0 ''
 echo changed > crates/format/src/lib.rt
 for time in first second; do
-    expect "a broken proof, the $time time" run 2 'check '
+    expect "a broken proof, the $time time" run 2 'lib tonschnecke '
     equal 'a broken proof, the error' "$(last 3)" 'of_a_crate.rt:1:1: error: not so'
 done
-expect 'the gate with a broken proof' 'test --silent' 2 'fmt ci '
+expect 'the gate with a broken proof' 'test --silent' 2 'ci '
 equal 'the gate with a broken proof, its verdict' "$(last 2)" '6 passed, 1 failed'
 rm unproved
-expect 'the proof repaired' run 0 'check staticlib '
+expect 'the proof repaired' run 0 'lib tonschnecke '
 
+for bad in ', 1 bad' ', 12 bad'; do
+    echo "$bad" > bad
+    expect "the gate with$bad edits" 'test --silent' 2 'ci '
+    equal "the gate with$bad edits, its verdict" "$(printf '%s\n' "$printed" | grep -c ' passed, ')" 0
+    equal "the gate with$bad edits, which" "$(last 2)" 'rt: must-fail format/an.edit: BAD EDIT: it changes nothing'
+done
+rm bad
+touch unsaid
+expect 'the gate with no word that all is well' test 2 'ci '
+rm unsaid
 echo old > build/libtonschnecke.a
-expect 'the gate' test 0 'fmt ci check staticlib check '
+expect 'the gate' test 0 'ci lib tonschnecke run nodes '
 equal 'the gate, its verdict' "$(last 1)" '7 passed, 0 failed'
 expect_archive 'the gate'
 touch differing
-expect 'the gate with a library that differs' test 2 'fmt ci check staticlib check '
+expect 'the gate with a library that differs' test 2 'ci lib tonschnecke run nodes '
 equal 'the gate with a library that differs, its verdict' "$(printf '%s\n' "$printed" | grep -c -e ' passed, ' -e '^compared$')" 1
 rm differing
 touch failing
-expect 'the gate with a failing test' test 2 'fmt ci check staticlib check '
+expect 'the gate with a failing test' test 2 'ci lib tonschnecke run nodes '
 equal 'the gate with a failing test, its verdict' "$(printf '%s\n' "$printed" | grep -c ' passed, ')" 0
+rm failing
+expect 'nothing left behind' clean 0 ''
+equal 'nothing left behind, what is built' "$(ls -d build crates/*/out 2> /dev/null)" ''
 echo 'make: as a user needs it'

@@ -7,7 +7,7 @@ trap 'rm -rf "$scratch"' EXIT
 
 # What standard input gives, on standard output: a name for the case, and the expected text.
 expect() {
-    target/bin/nodes > "$scratch/out"
+    crates/nodes/out/nodes > "$scratch/out"
     if ! printf '%s\n' "$2" | cmp -s - "$scratch/out"; then
         echo "nodes, $1: expected '$2', printed:"
         head -c 300 "$scratch/out"
@@ -33,7 +33,7 @@ text 65526 | expect '65,537 bytes' 'refused 1 at 0'
 { printf 'a:683:{'; for i in $(seq 0 682); do printf 'i:%d;N;' "$i"; done; printf '}'; } | expect 'more nodes than the table has room for' 'refused 7 at 5353'
 
 # The example year: what the command prints, the first lines of which docs/FORMAT.md shows.
-target/bin/nodes < examples/year.plan > "$scratch/year"
+crates/nodes/out/nodes < examples/year.plan > "$scratch/year"
 test -s "$scratch/year"
 build/tonschnecke nodes examples/year.plan | diff - "$scratch/year"
 echo 'nodes: as a user needs it'

@@ -46,7 +46,7 @@ too_old() {
 missing rt 'It proves the library' all archive run
 missing cargo 'It builds the command' all run
 missing gcc 'It compiles what of the library is C' all archive run
-too_old rt 'rattle-kit-4 logic 1' 4
+too_old rt 'rattle-kit-12 logic 1' 12
 too_old cargo 'cargo 1.88.0' 1.88.0
 version=$(sed -n 's/^version = "\(.*\)"$/\1/p' rust/Cargo.toml)
 first_line "error: tonschnecke@$version: the proved library is missing, $scratch/libtonschnecke.a: \`make archive\`" \
