@@ -14,13 +14,18 @@ def norm(name):
     return name.replace("_", "-")
 
 
+def first_word(line):
+    m = re.match(r"^(?:abbrev |pub )*([^\s:]+)", line)
+    return m.group(1) if m else line
+
+
 def chunks(text):
     out, cur = [], []
     for line in text.split("\n"):
         if line and not line[0].isspace() and cur and not re.match(r"^(unfolding |[)])", line):
             head = cur[-1] if cur[-1].startswith("--") or cur[-1].startswith("unfolding ") else None
-            name = re.match(r"^(?:abbrev |pub )*([^\s:]+)", line).group(1)
-            prev = next((re.match(r"^(?:abbrev |pub )*([^\s:]+)", l).group(1) for l in cur if not l.startswith(("--", "unfolding "))), None)
+            name = first_word(line)
+            prev = next((first_word(l) for l in cur if l.strip() and not l.startswith(("--", "unfolding "))), None)
             if all(l.startswith("--") or not l.strip() for l in cur) or (name == prev and name != "module"):
                 cur.append(line)
                 continue
@@ -64,14 +69,14 @@ def walk(path, module, names):
         for pat, new in ARMS:
             t = pat.sub("." + new.replace("\\", "\\\\"), t)
         t = re.sub(r"\.taken\b", ".true", t)
-        t = re.sub(r"\.left\b(?!-)", ".false", t)
+        t = re.sub(r"(\.(?:if[\w\-]*|[\w\-]*test))\.left\b(?!-)", r"\1.false", t)
         t = re.sub(r"\.inv\b(?![\-])", ".invariant", t)
 
         t = re.sub(r"\beqb-(?:true|false) _ _ \(?(c\.[\w.\-']+\.(?:true|false))\)?(?![\w.\-'])", r"\1", t)
 
         def field(m):
             name = m.group(1)
-            if t[: m.start()].endswith(".args"):
+            if not re.search(r"(?:^|[^\w\-'.])[\w']+$|\)$", t[: m.start()]):
                 return m.group(0)
             for n in (name, name.lower(), re.sub(r"_lem$", "", name)):
                 if norm(n) in fields:
@@ -204,7 +209,10 @@ def walk(path, module, names):
     def opened(answer):
         if answer.startswith("-- BY HAND"):
             return answer
-        head, eq, b = re.match(r"^(.*?\n)([^\n=]*?) = (.*)$", answer[answer.index("pub "):], re.S).groups()
+        m = re.match(r"^(.*?\n)([^\n=]*?) =\s(.*)$", answer[answer.index("pub "):], re.S)
+        if not m:
+            return "-- BY HAND\n" + answer
+        head, eq, b = m.groups()
         b = flat(b).strip()
         used, order = set(), []
 

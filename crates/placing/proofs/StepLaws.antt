@@ -10,7 +10,7 @@ use borrow.Author.Tests.{ltb-true, ltb-false, leb-true, leb-false, not-false}
 use Rattle.decimal.proofs.Decide.{T_of}
 use Rattle.format.specs.Kind.{Kind, tag}
 use Rattle.format.specs.Tree.{count, nodes_in}
-use Rattle.format.specs.Syntax.{array, Key, Scalar, Value, Values}
+use Rattle.format.specs.Syntax.{Key, Scalar, Value, Values}
 use Rattle.format.specs.Keys.{has_key}
 use Rattle.format.specs.Limits.{depth_limit}
 use Rattle.format.specs.Answer.{Answer, ok, refused}

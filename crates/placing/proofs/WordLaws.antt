@@ -5,11 +5,7 @@ use native.Mathlib.Numerals.{add-one}
 use native.Mathlib.Omega.{arith}
 use mathlib.Core.Path.{◌≡◌, refl, sym, ap, ap₂, ◌∙◌}
 use mathlib.Core.Bool.{Bool, true, false, not, ◌&&◌, true≢false}
-use mathlib.Core.List.{List, [], ◌∷◌}
-use mathlib.Core.Logic.{⊎_elim}
-use types.Run.{OneOf}
-use denote.Enum.Declared.{tag_of}
-use Rattle.placing.specs.contracts.steps.Check as check
+use mathlib.Core.List.{List}
 use lib.Dec.{eqb, ltb, leb, ltb→lt, eqb→eq}
 use lib.ListN.{get_or}
 use borrow.Author.Tests.{eq-eqb, ne_eqb, lt-ltb, le-ltb, le-leb, lt-leb, leb-true, leb-false}
@@ -113,12 +109,9 @@ pub check_passed : (r : Check) (b : Bool) (n p : ℕ) → check_answer r ≡ req
 check_passed r true n p e f = refl
 check_passed r false n p e f = absurd (not_both (sym e ∙ ap check_answer f))
 
-pub check_failed : (r : Check) (b : Bool) (n p : ℕ) → check_answer r ≡ require b n p → OneOf (1 ∷ 2 ∷ 3 ∷ []) (tag_of check.the_type r) → b ≡ false
+pub check_failed : (r : Check) (b : Bool) (n p : ℕ) → check_answer r ≡ require b n p → (r ≡ Check.Passed → ⊥) → b ≡ false
 check_failed r false n p e f = refl
-check_failed Check.Passed true n p e f = absurd (never f)
-  where
-    never : OneOf (1 ∷ 2 ∷ 3 ∷ []) 0 → ⊥
-    never k = ⊎_elim (λ i. omega (arith, i)) (λ j. ⊎_elim (λ i. omega (arith, i)) (λ i. omega (arith, i)) j) k
+check_failed Check.Passed true n p e f = absurd (f refl)
 check_failed Check.KeyPresent true n p e f = absurd (not_both e)
 check_failed Check.TooDeep true n p e f = absurd (not_both e)
 check_failed Check.TableFull true n p e f = absurd (not_both e)
