@@ -20,7 +20,7 @@ use placing::{Placing, locate};
 use reader::Reading;
 use rewriting::{Edit, Edited, write};
 
-// What is written of so short a source, key and value is never longer than a plan may be (`edited-most`, crates/rewriting): a reference has four bytes or more
+// What is written of so short a source, key and value is never longer than a plan may be (`edited_most`, crates/rewriting): a reference has four bytes or more
 // and grows by one at the most, and the parts of a splice are stretches of the source (`spot-leads`, crates/placing). So five quarters of the source, both
 // texts and a head of nine bytes are at most 65,259.
 const SHORT_SOURCE: usize = 49000;

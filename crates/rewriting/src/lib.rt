@@ -2,7 +2,7 @@
 // of the whole. Texts longer than a plan, and a splice whose head is not in the source, are not edited at all (`Unfit`): so no index overflows.
 // Nothing else is refused. The editor calls `write`, first into an empty output where the text has to be measured.
 // The text is defined on any bytes (specs/Edited, `edited_text`), and the code equals it. That it is the right text for a plan that was read is a lemma: tokens
-// that fill the bytes are those between (`between-stretch`, crates/tokens).
+// that fill the bytes are those between (`between_stretch`, crates/tokens).
 // The table is that of the plan which was read: what becomes of a token may ask for its node's tag. A table of other words gives what the definition says.
 // Goes by tokens, scanned again, since no tag's offset stands in the table: those that stay are passed and copied as one stretch, the others written again.
 #![tactic(auto)]

@@ -7,10 +7,10 @@ use Rattle.editor.proofs.insert.Goals as goal
 pub returns-in_default : goal.returns-in_default
 returns-in_default c = ended.writes_unplaced c.locate-placing.ensures c.in_default.is _ c.refusal_of-refusal.ensures
 
-pub write_plan-requires : goal.write_plan-requires
-write_plan-requires c = ended.insert-sound c.locate-placing.ensures c.in-At.is _
-
 pub returns : goal.returns
 returns c = let placed = c.locate-placing.ensures in
     c.write_plan.ensures _ _ (ended.spot-table placed c.in-At.is)
     ((ended.located placed c.in-At.is).bytes _)
+
+pub write_plan-requires : goal.write_plan-requires
+write_plan-requires c = ended.insert-sound c.locate-placing.ensures c.in-At.is _

@@ -10,8 +10,7 @@ use Rattle.keys.proofs.same_key.Goals as goal
 pub returns-then-a-b : goal.returns-then-a-b
 returns-then-a-b c =
     let pattern : says_text c.args.of_array c.args.a ≡ false = sym c.says_text.ensures ∙ c.if-not-says_text.true in
-    sym (said.patterns_differ _ _ _ _ _ pattern (omega (arith, c.struct_known-1.given)) (omega (arith, c.struct_known-then-not-says_text-1.given))
-    c.if-a-b.true)
+    sym (said.patterns_differ _ _ _ _ _ pattern (omega arith) (omega arith) c.if-a-b.true)
 
 pub returns-then-not-says_text : goal.returns-then-not-says_text
 returns-then-not-says_text c =

@@ -1,6 +1,7 @@
 -- `tokens::token` meets its contract. Assumes nothing.
 use native.Mathlib.Omega.{arith}
 use mathlib.Core.Path.{refl}
+use Rattle.std.proofs.Common.{rules, get_or}
 use Rattle.scanner.proofs.Numbers.{answered}
 use Rattle.tokens.proofs.Scanned as scanned
 use Rattle.tokens.proofs.token.Goals as goal
@@ -21,6 +22,6 @@ pub returns-in-114 : goal.returns-in-114
 returns-in-114 c = answered (scanned.token-reference _ _ _ (omega (arith, c.if-source-at.false)) refl _ c.in-114.is c.named.ensures.scans)
 
 pub returns-in_default : goal.returns-in_default
-returns-in_default c = let not = c.in_default.in_default-own.rest in
-    answered (scanned.token-scalar _ _ _ (omega (arith, c.if-source-at.false)) refl _ not.0.0.0.1 not.0.0.1 not.0.1 not.1
+returns-in_default c =
+    answered (scanned.token-scalar c.args.source.now c.args.at (get_or c.args.source.now c.args.at 0) (omega (arith, c.if-source-at.false)) refl _ (search rules) (search rules) (search rules) (search rules)
     c.scalar.ensures.scans)

@@ -7,6 +7,12 @@ use Rattle.rewriting.proofs.rewrite.respell.Goals as goal
 
 -- the text first: what an edit breaks is seen there
 
+pub returns-in-Renumber : goal.returns-in-Renumber
+returns-in-Renumber c = let pre = c.requires in
+    let changes = pre.3.moves _ c.in-Renumber.is in
+    puts_as (spelled.as_renumbered _ _ _ _ c.in-Renumber.is ∙ spelled.spelled-moved _ _ _ _ changes.0 changes.1)
+    c.numbered.ensures
+
 pub overflow_sub-named : goal.overflow_sub-named
 overflow_sub-named c = let pre = c.requires in
     let changes = pre.3.moves _ c.in-Renumber.is in
@@ -26,9 +32,3 @@ numbered-requires c = let pre = c.requires in
       pre.1.inside,
       within_as (spelled.as_renumbered _ _ _ _ moving ∙ spelled.spelled-moved _ _ _ _ changes.0 changes.1) pre.4,
     )
-
-pub returns-in-Renumber : goal.returns-in-Renumber
-returns-in-Renumber c = let pre = c.requires in
-    let changes = pre.3.moves _ c.in-Renumber.is in
-    puts_as (spelled.as_renumbered _ _ _ _ c.in-Renumber.is ∙ spelled.spelled-moved _ _ _ _ changes.0 changes.1)
-    c.numbered.ensures

@@ -1,11 +1,39 @@
 -- `rewriting::shortest::shortest` meets its contract. Assumes nothing.
+use Rattle.std.proofs.Common.{rules}
 use Rattle.rewriting.proofs.Outputs.{puts_as, within_as}
 use native.Mathlib.Omega.{arith}
 use Rattle.rewriting.proofs.Spelled as spelled
 use Rattle.rewriting.proofs.Spelled.{more_of}
 use Rattle.rewriting.proofs.shortest.shortest.Goals as goal
 
--- all other tags first: a tag that is matched no more falls to them, and this says why that is wrong
+-- the texts first: what an edit breaks is seen there
+
+pub returns-in_default : goal.returns-in_default
+returns-in_default c =
+    puts_as (spelled.copied_text c.args.source.now c.args.at c.args.text (search rules) (search rules) (search rules) (search rules) (search rules))
+    c.copy.ensures
+
+pub returns-in-105 : goal.returns-in-105
+returns-in-105 c = puts_as (spelled.int-text _ _ _ c.in-105.is) c.signed.ensures
+
+pub returns-in-115 : goal.returns-in-115
+returns-in-115 c = puts_as (spelled.string-text _ _ _ c.in-115.is) c.numbered.ensures
+
+pub returns-in-97 : goal.returns-in-97
+returns-in-97 c = puts_as (spelled.array-text _ _ _ c.in-97.is) c.numbered-in-97.ensures
+
+pub returns-in-79 : goal.returns-in-79
+returns-in-79 c = puts_as (spelled.object-text _ _ _ c.in-79.is) c.object_head.ensures
+
+pub returns-in-114 : goal.returns-in-114
+returns-in-114 c = puts_as (spelled.reference-text _ _ _ c.in-114.is) c.numbered-in-114.ensures
+
+pub copy-requires : goal.copy-requires
+copy-requires c = let pre = c.requires in (
+  omega (arith, pre.0.on),
+  pre.0.inside,
+  within_as (spelled.copied_text c.args.source.now c.args.at c.args.text (search rules) (search rules) (search rules) (search rules) (search rules)) pre.1,
+)
 
 pub signed-requires : goal.signed-requires
 signed-requires c = let pre = c.requires in
@@ -42,31 +70,3 @@ numbered-requires-in-114 c = let pre = c.requires in
       pre.0.inside,
       within_as (spelled.reference-text _ _ _ refers) pre.1,
     )
-
-pub copy-requires : goal.copy-requires
-copy-requires c = let pre = c.requires in
-    let others = c.in_default.in_default-own.rest in (
-      omega (arith, pre.0.on),
-      pre.0.inside,
-      within_as (spelled.copied_text _ _ _ others.0.0.0.0.1 others.0.0.0.1 others.0.0.1 others.0.1 others.1) pre.1,
-    )
-
-pub returns-in-105 : goal.returns-in-105
-returns-in-105 c = puts_as (spelled.int-text _ _ _ c.in-105.is) c.signed.ensures
-
-pub returns-in-115 : goal.returns-in-115
-returns-in-115 c = puts_as (spelled.string-text _ _ _ c.in-115.is) c.numbered.ensures
-
-pub returns-in-97 : goal.returns-in-97
-returns-in-97 c = puts_as (spelled.array-text _ _ _ c.in-97.is) c.numbered-in-97.ensures
-
-pub returns-in-79 : goal.returns-in-79
-returns-in-79 c = puts_as (spelled.object-text _ _ _ c.in-79.is) c.object_head.ensures
-
-pub returns-in-114 : goal.returns-in-114
-returns-in-114 c = puts_as (spelled.reference-text _ _ _ c.in-114.is) c.numbered-in-114.ensures
-
-pub returns-in_default : goal.returns-in_default
-returns-in_default c = let others = c.in_default.in_default-own.rest in
-    puts_as (spelled.copied_text _ _ _ others.0.0.0.0.1 others.0.0.0.1 others.0.0.1 others.0.1 others.1)
-    c.copy.ensures

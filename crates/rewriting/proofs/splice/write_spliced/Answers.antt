@@ -5,6 +5,10 @@ use Rattle.rewriting.proofs.splice.write_spliced.Goals as goal
 
 -- the text first: what an edit breaks is seen there
 
+pub returns : goal.returns
+returns c = texts.all-put c.requires c.args.table.now c.rewrite-before.ensures c.numbered-counted.ensures c.rewrite-upto.ensures c.copy-keyed.ensures
+    c.copy-valued.ensures c.rewrite.ensures
+
 pub rewrite-before-requires : goal.rewrite-before-requires
 rewrite-before-requires c = texts.front-within c.requires c.args.table.now
 
@@ -28,7 +32,3 @@ copy-valued-requires c = (
 pub rewrite-requires : goal.rewrite-requires
 rewrite-requires c = texts.back-within c.requires c.args.table.now c.rewrite-before.ensures c.numbered-counted.ensures c.rewrite-upto.ensures c.copy-keyed.ensures
     c.copy-valued.ensures
-
-pub returns : goal.returns
-returns c = texts.all-put c.requires c.args.table.now c.rewrite-before.ensures c.numbered-counted.ensures c.rewrite-upto.ensures c.copy-keyed.ensures
-    c.copy-valued.ensures c.rewrite.ensures

@@ -1,4 +1,5 @@
 -- `scanner::scalar::scalar` meets its contract. Assumes nothing.
+use Rattle.std.proofs.Common.{rules}
 use Rattle.scanner.proofs.Numbers.{answered}
 use Rattle.scanner.proofs.Scalars as scalars
 use Rattle.scanner.proofs.scalar.scalar.Goals as goal
@@ -19,4 +20,4 @@ pub returns-in-115 : goal.returns-in-115
 returns-in-115 c = answered (scalars.scalar-string _ _ _ _ c.in-115.is c.quoted.ensures.scans)
 
 pub returns-in_default : goal.returns-in_default
-returns-in_default c = let not = c.in_default.in_default-own.rest in answered (scalars.scalar-none _ _ _ not.0.0.0.0.1 not.0.0.0.1 not.0.0.1 not.0.1 not.1)
+returns-in_default c = answered (scalars.scalar-none _ _ c.args.tag (search rules) (search rules) (search rules) (search rules) (search rules))
