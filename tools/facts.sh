@@ -42,5 +42,5 @@ for edit in crates/*/must-fail/*.edit; do
     name=$(basename "$edit" .edit)
     first=
     [ ! -f "$log" ] || first=$(fact "$crate" "$name")
-    printf '| %-11s | %-33s | %-44s |\n' "$crate" "$name" "$first"
+    printf '| %-11s | %-33s | %-51s |\n' "$crate" "$name" "$first"
 done

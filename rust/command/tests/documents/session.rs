@@ -4,6 +4,7 @@ use crate::blocks::{project, Block};
 use std::env;
 use std::fs;
 use std::os::unix::fs::symlink;
+use std::ops::Deref;
 use std::path::{Path, PathBuf};
 use std::process::{Command, Stdio};
 
@@ -16,13 +17,28 @@ pub struct Printed {
 /// Stands between what two commands print.
 const MARK: &str = "--- the next command, after status";
 
-/// A folder for one document, made anew.
-pub fn folder(document: &str) -> PathBuf {
-    let name = document.replace('/', "-");
-    let folder = Path::new(env!("CARGO_TARGET_TMPDIR")).join(name);
-    if folder.exists() {
-        fs::remove_dir_all(&folder).expect("its owner");
+/// A folder for one document, gone with it. It stands outside of the project, where `rt ci` refuses the links that are in it.
+pub struct Folder(PathBuf);
+
+impl Deref for Folder {
+    type Target = Path;
+
+    fn deref(&self) -> &Path {
+        &self.0
     }
+}
+
+impl Drop for Folder {
+    fn drop(&mut self) {
+        let removed = fs::remove_dir_all(&self.0);
+        assert!(std::thread::panicking() || removed.is_ok());
+    }
+}
+
+pub fn folder(document: &str) -> Folder {
+    let name = document.replace('/', "-");
+    let name = format!("tonschnecke-document-{}-{name}", std::process::id());
+    let folder = Folder(env::temp_dir().join(name));
     fs::create_dir_all(folder.join("build")).expect("a folder");
     let copied = ["examples", "include", "Makefile", "tonschnecke.pc.in"];
     for name in copied {
