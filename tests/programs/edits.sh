@@ -20,7 +20,12 @@ compared=0
 while IFS= read -r row; do
     IFS='|' read -r _ crate name fact _ <<<"$row"
     crate=${crate// /} name=${name// /}
-    [ -n "${fact// /}" ] && [ -z "$(find "crates/$crate" -name out -prune -o -newer "$log" -type f -print -quit)" ] || continue
+    [ -f "$log" ] && [ -z "$(find "crates/$crate" -name out -prune -o -newer "$log" -type f -print -quit)" ] || continue
+    if [ -z "${fact// /}" ]; then
+        echo "$log: no fact is told of $crate/$name"
+        failed=1
+        continue
+    fi
     compared=$((compared + 1))
     if ! grep -qxF -- "$row" <<<"$rows"; then
         echo "docs/EDITS.md: the log says: $row"
