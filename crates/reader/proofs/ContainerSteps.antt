@@ -1,5 +1,6 @@
 -- A container, by the definitions of reading. Assumes nothing.
-use Rattle.std.proofs.Common.{◌≡◌, ℕ, suc, ◌+◌, ◌-◌, ◌*◌, ◌<◌, ◌≤◌, Bool, true, false, eqb, List, [], ◌∷◌, ◌++◌, length, get_or, drop, sym, refl, ap, ◌∙◌, subst, ap₂, subst₂, add-one, arith, lit<, get_or-set_other, get_or-set_same}
+use Rattle.std.proofs.Common.{◌≡◌, ℕ, suc, ◌+◌, ◌-◌, ◌*◌, ◌<◌, ◌≤◌, Bool, true, false, eqb, List, [], ◌∷◌, ◌++◌, length, get_or, drop, sym, refl, ap}
+use Rattle.std.proofs.Common.{◌∙◌, subst, ap₂, subst₂, add-one, arith, lit<, get_or-set_other, get_or-set_same}
 use lib.Seq.{sets, length-sets}
 use Rattle.format.specs.Bytes.{byte, bytes}
 use Rattle.format.specs.Kind.{has_ordinal}

@@ -1,5 +1,6 @@
 -- Laws of pairs to which one is added at the end: their words, and the ordinals that they take. Assumes nothing.
-use Rattle.std.proofs.Common.{◌≡◌, ℕ, suc, ◌+◌, ◌-◌, ◌≤◌, Bool, true, false, T, List, [], ◌∷◌, ◌++◌, length, get_or, sym, refl, ap, ◌∙◌, subst, ap₂, subst₂, append_assoc, append-nil, add-zero, add-suc, suc-add, arith, length-append}
+use Rattle.std.proofs.Common.{◌≡◌, ℕ, suc, ◌+◌, ◌-◌, ◌≤◌, Bool, true, false, T, List, [], ◌∷◌, ◌++◌, length, get_or, sym, refl, ap, ◌∙◌, subst, ap₂}
+use Rattle.std.proofs.Common.{subst₂, append_assoc, append-nil, add-zero, add-suc, suc-add, arith, length-append}
 use Rattle.format.specs.Tree.{leaf, ref, branch, none, pair, nodes, nodes_in, ordinals, ordinals_in, only}
 use Rattle.format.specs.Syntax.{Key, Value, Values, own, write, write_key, write_pairs}
 use Rattle.format.specs.Answer.{Answer, ok, refused, ◌>>=◌}

@@ -1,5 +1,6 @@
 -- Laws of tags and the kinds that they are of. Assumes nothing.
-use Rattle.std.proofs.Common.{◌≡◌, ℕ, ◌+◌, ◌-◌, ◌<◌, ◌≤◌, Bool, true, false, T, eqb, List, [], ◌∷◌, length, get_or, drop, sym, refl, ap, ◌∙◌, inl, inr, ⊎_elim, true≢false, add-one, arith, length-drop, drop_of_length-le, drop-cons, eq-eqb, ne_eqb, eqb-true}
+use Rattle.std.proofs.Common.{◌≡◌, ℕ, ◌+◌, ◌-◌, ◌<◌, ◌≤◌, Bool, true, false, T, eqb, List, [], ◌∷◌, length, get_or, drop, sym, refl, ap, ◌∙◌, inl}
+use Rattle.std.proofs.Common.{inr, ⊎_elim, true≢false, add-one, arith, length-drop, drop_of_length-le, drop-cons, eq-eqb, ne_eqb, eqb-true}
 use borrow.Author.Tests.{eqb-false}
 use Rattle.decimal.proofs.Decide.{Test, passed, failed, test, T_true, and_left, and_right}
 use Rattle.format.specs.Kind.{Kind, kinds, tag, is_tag_of, key_kinds, may_be_key}

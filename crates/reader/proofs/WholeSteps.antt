@@ -1,5 +1,6 @@
 -- A whole plan, by the definitions of reading. Assumes nothing.
-use Rattle.std.proofs.Common.{◌≡◌, ℕ, ◌+◌, ◌-◌, ◌*◌, ◌/◌, ◌<◌, ◌≤◌, List, ◌++◌, length, drop, replicate, sym, ap, ◌∙◌, subst, ap₂, zero-add, arith, drop_of_length-le, drop-cons, le-leb}
+use Rattle.std.proofs.Common.{◌≡◌, ℕ, ◌+◌, ◌-◌, ◌*◌, ◌/◌, ◌<◌, ◌≤◌, List, ◌++◌, length, drop, replicate, sym, ap, ◌∙◌, subst, ap₂, zero-add, arith}
+use Rattle.std.proofs.Common.{drop_of_length-le, drop-cons, le-leb}
 use lib.Seq.{sets-eq}
 use borrow.Author.Tests.{lt-leb}
 use Rattle.format.specs.Bytes.{is_empty}

@@ -12,12 +12,16 @@ returns-then-not-can_write c = editable.leaves-unfit _ _ _ _ _ (sym c.can_write.
 pub returns-in-Canonical : goal.returns-in-Canonical
 returns-in-Canonical c =
     let fit : writable (length c.args.source.now) c.args.edit (length c.args.key.now) (length c.args.value.now) ≡ true = sym c.can_write.ensures ∙ c.if-not-can_write.false in
-    editable.puts_edited _ _ _ c.args.key.now c.args.value.now fit (editable.as_canonical c.args.source.now c.args.table.now c.args.key.now c.args.value.now c.in-Canonical.is) c.rewrite-length.ensures
+    editable.puts_edited _ _ _ c.args.key.now c.args.value.now fit
+    (editable.as_canonical c.args.source.now c.args.table.now c.args.key.now c.args.value.now c.in-Canonical.is)
+    c.rewrite-length.ensures
 
 pub returns-in-Splice : goal.returns-in-Splice
 returns-in-Splice c =
     let fit : writable (length c.args.source.now) c.args.edit (length c.args.key.now) (length c.args.value.now) ≡ true = sym c.can_write.ensures ∙ c.if-not-can_write.false in
-    editable.puts_edited c.args.source.now c.args.table.now c.args.edit c.args.key.now c.args.value.now fit (editable.as_splice c.args.source.now c.args.table.now c.args.key.now c.args.value.now c.in-Splice.is) c.write_spliced-length.ensures
+    editable.puts_edited c.args.source.now c.args.table.now c.args.edit c.args.key.now c.args.value.now fit
+    (editable.as_splice c.args.source.now c.args.table.now c.args.key.now c.args.value.now c.in-Splice.is)
+    c.write_spliced-length.ensures
 
 pub rewrite-length-requires : goal.rewrite-length-requires
 rewrite-length-requires c =

@@ -23,5 +23,6 @@ returns-in-114 c = answered (scanned.token-reference _ _ _ (omega (arith, c.if-s
 
 pub returns-in_default : goal.returns-in_default
 returns-in_default c =
-    answered (scanned.token-scalar c.args.source.now c.args.at (get_or c.args.source.now c.args.at 0) (omega (arith, c.if-source-at.false)) refl _ (search rules) (search rules) (search rules) (search rules)
+    answered (scanned.token-scalar c.args.source.now c.args.at (get_or c.args.source.now c.args.at 0) (omega (arith, c.if-source-at.false)) refl _
+    (search rules) (search rules) (search rules) (search rules)
     c.scalar.ensures.scans)

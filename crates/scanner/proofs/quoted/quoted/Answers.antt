@@ -1,81 +1,62 @@
 -- `scanner::quoted::quoted` meets its contract. Assumes nothing.
-use Prim.Native.Nat.{ℕ, ◌+◌, ◌≤◌, ◌<◌}
+use Prim.Native.Nat.{◌+◌, ◌≤◌, ◌<◌}
 use native.Mathlib.Omega.{arith}
-use mathlib.Core.Path.{◌≡◌, sym, refl, ◌∙◌}
-use mathlib.Core.Bool.{true}
-use mathlib.Core.List.{List}
-use lib.Dec.{eqb, lit<}
+use mathlib.Core.Path.{sym, refl, ◌∙◌}
+use lib.Dec.{lit<}
 use lib.ListN.{length}
 use Rattle.format.specs.Bytes.{byte}
 use Rattle.format.specs.Limits.{number_limit}
-use Rattle.format.specs.Read.{number}
-use Rattle.bytes_at.specs.ByteAt.{byte_at}
 use Rattle.bytes_at.proofs.BytesAt.{byte-there, pair-there}
-use Rattle.scanner.specs.declared.Text.{Text}
-use Rattle.scanner.specs.Scans.{Found, value_told}
 use Rattle.scanner.proofs.Numbers.{found_of, answered}
 use Rattle.scanner.proofs.Quotes as quotes
 use Rattle.scanner.proofs.quoted.quoted.Goals as goal
-use Rattle.scanner.proofs.quoted.quoted.Goals.{then-source-colon-ne58-via-then-source-colon-ne58 as no_colon, then-source-colon-ne58-via-else-source-colon-ne58+then-source-colon-ne34 as no_quote, then-source-colon-ne58-via-else-source-colon-ne58+else-source-colon-ne34+then-source-end-ne34 as no_end_quote, then-source-colon-ne58-via-else-source-colon-ne58+else-source-colon-ne34+else-source-end-ne34+then-source-end as no_close}
+use Rattle.scanner.proofs.quoted.quoted.Goals.{then-source-colon-ne58-via-then-source-colon-ne58 as no_colon}
+use Rattle.scanner.proofs.quoted.quoted.Goals.{then-source-colon-ne58-via-else-source-colon-ne58+then-source-colon-ne34 as no_quote}
+use Rattle.scanner.proofs.quoted.quoted.Goals.{then-source-colon-ne58-via-else-source-colon-ne58+else-source-colon-ne34+then-source-end-ne34 as no_end_quote}
+use Rattle.scanner.proofs.quoted.quoted.Goals.{then-source-colon-ne58-via-else-source-colon-ne58+else-source-colon-ne34+else-source-end-ne34+then-source-end as no_close}
 
 pub returns-then-not-byte_is : goal.returns-then-not-byte_is
 returns-then-not-byte_is c = answered (quotes.quoted_colon _ _ c.args.close (omega arith) (sym c.byte_is.ensures ∙ c.if-not-byte_is.true))
 
 pub overflow_add-at : goal.overflow_add-at
 overflow_add-at c =
-    let source : List ℕ = c.args.source.now in
-    let at : ℕ = c.args.at in
-    let colon : eqb (byte_at source at) (byte ":") ≡ true = sym c.byte_is.ensures ∙ c.if-not-byte_is.false in
+    let colon = sym c.byte_is.ensures ∙ c.if-not-byte_is.false in
     omega (arith, byte-there _ _ (byte ":") (lit< tt) colon)
 
 pub returns-in_default : goal.returns-in_default
 returns-in_default c =
-    let source : List ℕ = c.args.source.now in
-    let at : ℕ = c.args.at in
-    let colon : eqb (byte_at source at) (byte ":") ≡ true = sym c.byte_is.ensures ∙ c.if-not-byte_is.false in
+    let colon = sym c.byte_is.ensures ∙ c.if-not-byte_is.false in
     let small : c.args.close < 256 = omega arith in
     answered (quotes.quoted_not _ _ _ small colon _ _ c.number-scan.ensures c.in_default.is)
 
 pub overflow_sub-source : goal.overflow_sub-source
 overflow_sub-source c =
-    let source : List ℕ = c.args.source.now in
-    let at : ℕ = c.args.at in
-    let run : Text = c.in-Is.run' in
-    let size : Found number value_told source (at + 1) run = found_of c.number-scan.ensures c.in-Is.is in
+    let size = found_of c.number-scan.ensures c.in-Is.is in
     omega (arith, size.inside)
 
 pub overflow_add-size : goal.overflow_add-size
 overflow_add-size c =
-    let source : List ℕ = c.args.source.now in
-    let at : ℕ = c.args.at in
-    let colon : eqb (byte_at source at) (byte ":") ≡ true = sym c.byte_is.ensures ∙ c.if-not-byte_is.false in
+    let colon = sym c.byte_is.ensures ∙ c.if-not-byte_is.false in
     let small : c.args.close < 256 = omega arith in
-    let run : Text = c.in-Is.run' in
-    let size : Found number value_told source (at + 1) run = found_of c.number-scan.ensures c.in-Is.is in
-    let fits : run.content ≤ number_limit = quotes.fits _ _ _ small colon _ size in
+    let size = found_of c.number-scan.ensures c.in-Is.is in
+    let fits : c.in-Is.run'.content ≤ number_limit = quotes.fits _ _ _ small colon _ size in
     omega (arith, fits)
 
 pub returns-then-source-colon : goal.returns-then-source-colon
 returns-then-source-colon c =
-    let source : List ℕ = c.args.source.now in
-    let at : ℕ = c.args.at in
-    let colon : eqb (byte_at source at) (byte ":") ≡ true = sym c.byte_is.ensures ∙ c.if-not-byte_is.false in
+    let colon = sym c.byte_is.ensures ∙ c.if-not-byte_is.false in
     let small : c.args.close < 256 = omega arith in
-    let run : Text = c.in-Is.run' in
-    let size : Found number value_told source (at + 1) run = found_of c.number-scan.ensures c.in-Is.is in
+    let size = found_of c.number-scan.ensures c.in-Is.is in
     answered (quotes.quoted_unframed _ _ _ small colon _ size
     (λ o e. omega (arith, pair-there _ _ _ _ e small, c.if-source-colon.true)))
 
 pub returns-then-source-colon-ne58 : goal.returns-then-source-colon-ne58
 returns-then-source-colon-ne58 c =
-    let source : List ℕ = c.args.source.now in
-    let at : ℕ = c.args.at in
-    let colon : eqb (byte_at source at) (byte ":") ≡ true = sym c.byte_is.ensures ∙ c.if-not-byte_is.false in
+    let colon = sym c.byte_is.ensures ∙ c.if-not-byte_is.false in
     let small : c.args.close < 256 = omega arith in
-    let run : Text = c.in-Is.run' in
-    let size : Found number value_told source (at + 1) run = found_of c.number-scan.ensures c.in-Is.is in
-    let room : run.next + 2 + run.content + 1 < length source = omega (arith, c.if-source-colon.false, size.inside) in
-    let front : run.next + 1 < length source = omega (arith, room) in
+    let size = found_of c.number-scan.ensures c.in-Is.is in
+    let room : c.in-Is.run'.next + 2 + c.in-Is.run'.content + 1 < length c.args.source.now = omega (arith, c.if-source-colon.false, size.inside) in
+    let front : c.in-Is.run'.next + 1 < length c.args.source.now = omega (arith, room) in
     answered (quotes.quoted_unframed _ _ _ small colon _ size (λ o e. elim c.then-source-colon-ne58.branch [
       | no_colon w ↦ w.if-source-colon-ne58.true (quotes.first-is _ _ _ _ front o)
       | no_quote w ↦ w.if-source-colon-ne34.true (quotes.second_is _ _ _ _ front o)
@@ -85,14 +66,11 @@ returns-then-source-colon-ne58 c =
 
 pub returns : goal.returns
 returns c =
-    let source : List ℕ = c.args.source.now in
-    let at : ℕ = c.args.at in
-    let colon : eqb (byte_at source at) (byte ":") ≡ true = sym c.byte_is.ensures ∙ c.if-not-byte_is.false in
+    let colon = sym c.byte_is.ensures ∙ c.if-not-byte_is.false in
     let small : c.args.close < 256 = omega arith in
-    let run : Text = c.in-Is.run' in
-    let size : Found number value_told source (at + 1) run = found_of c.number-scan.ensures c.in-Is.is in
-    let room : run.next + 2 + run.content + 1 < length source = omega (arith, c.if-source-colon.false, size.inside) in
-    let front : run.next + 1 < length source = omega (arith, room) in
+    let size = found_of c.number-scan.ensures c.in-Is.is in
+    let room : c.in-Is.run'.next + 2 + c.in-Is.run'.content + 1 < length c.args.source.now = omega (arith, c.if-source-colon.false, size.inside) in
+    let front : c.in-Is.run'.next + 1 < length c.args.source.now = omega (arith, room) in
     answered (quotes.quoted_is _ _ _ small colon _ size
     (quotes.pair_is _ _ _ _ front c.if-source-colon-ne58.false c.if-source-colon-ne34.false)
     (quotes.pair_is _ _ _ _ room c.if-source-end-ne34.false c.if-source-end.false) _ refl)
