@@ -8,7 +8,12 @@ log=${1-build/ci.log}
 # The function that has this line, below the module of its file.
 function_at() { # CRATE FILE LINE
     local module=${2#src/} name
-    name=$(head -n "$3" "crates/$1/$2" | sed -n 's/^.*\bfn \([a-z0-9_]*\).*/\1/p' | tail -n 1)
+    # an attribute stands above its function
+    if sed -n "$3p" "crates/$1/$2" | grep -q '^ *#\['; then
+        name=$(tail -n "+$3" "crates/$1/$2" | sed -n 's/^.*\bfn \([a-z0-9_]*\).*/\1/p' | head -n 1)
+    else
+        name=$(head -n "$3" "crates/$1/$2" | sed -n 's/^.*\bfn \([a-z0-9_]*\).*/\1/p' | tail -n 1)
+    fi
     module=${module%.rt}/
     echo "${module#lib/}$name"
 }

@@ -51,7 +51,7 @@ says() { # WORDS
 }
 
 format=crates/format/specs
-reading=$(lines $format/{Bytes,Kind,Tree,Syntax,Keys,Limits,Fits,Answer,Read,Table,Meaning,Reading}.antt crates/decimal/specs/{Digits,Complement}.antt)
+reading=$(lines $format/{Bytes,Kind,Tree,Syntax,Keys,Limits,Fits,Answer,Codes,Read,Table,Meaning,Reading}.antt crates/decimal/specs/{Digits,Complement}.antt)
 says "of crates/decimal: $reading lines without comments, blank lines and imports"
 says "For canonical text Canonical ($(lines $format/Canonical.antt) lines)"
 says "for inserting Edit and Writing ($(lines $format/{Edit,Writing}.antt)), crates/insertion/specs/Shift ($(lines crates/insertion/specs/Shift.antt)) and Ways"

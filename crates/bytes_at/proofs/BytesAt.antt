@@ -1,36 +1,32 @@
 -- Laws of the bytes of a source. Assumes nothing.
-use Prim.Native.Nat.{ℕ, suc, zero, ◌+◌, ◌≤◌, ◌<◌}
-use native.Mathlib.Nat.{le_of_suc-le-suc, not-suc-le-zero}
+use Prim.Native.Nat.{ℕ, suc, ◌+◌, ◌≤◌, ◌<◌}
 use native.Mathlib.Numerals.{add-one}
 use native.Mathlib.Omega.{arith}
 use mathlib.Core.Path.{◌≡◌, refl, sym, ap, ◌∙◌}
-use mathlib.Core.Bool.{Bool, true, false, ◌&&◌, true≢false, and-false}
+use mathlib.Core.Bool.{true, false, ◌&&◌, true≢false, and-false}
 use mathlib.Core.List.{List, [], ◌∷◌}
 use lib.Dec.{eqb}
 use lib.ListN.{length, get_or, drop, get_or-eq_default, drop_of_length-le}
 use lib.Seq.{drop-cons}
 use borrow.Author.Tests.{ne_eqb, eq-eqb, eqb-true, eqb-false}
+use Rattle.std.proofs.lemmas.Bool.{and_parts}
+use Rattle.std.proofs.lemmas.List.{get_or_default}
 use Rattle.decimal.proofs.Decide.{Order, below, above, order, Test, passed, failed, test}
 use Rattle.format.specs.Bytes.{same_bytes}
 use Rattle.format.specs.Answer.{refused}
 use Rattle.format.specs.Read.{expect}
 use Rattle.bytes_at.specs.ByteAt.{byte_at}
 
-inside : (s : List ℕ) (i d e : ℕ) → i < length s → get_or s i d ≡ get_or s i e
-inside [] i d e h = absurd (not-suc-le-zero h)
-inside (x ∷ xs) zero d e h = refl
-inside (x ∷ xs) (suc i) d e h = inside xs i d e (le_of_suc-le-suc h)
-
 pub byte_in : (s : List ℕ) (i : ℕ) → i < length s → byte_at s i ≡ get_or s i 0
 unfolding byte_at
-byte_in s i h = inside s i 256 0 h
+byte_in s i h = get_or_default s i 256 0 h
 
 byte_out : (s : List ℕ) (i : ℕ) → length s ≤ i → byte_at s i ≡ 256
 unfolding byte_at
 byte_out s i h = get_or-eq_default s 256 h
 
 -- a byte's test fails past the end, so where it passes, the index is inside
-pub byte-none : (s : List ℕ) (i b : ℕ) → length s ≤ i → b < 256 → eqb (byte_at s i) b ≡ false
+byte-none : (s : List ℕ) (i b : ℕ) → length s ≤ i → b < 256 → eqb (byte_at s i) b ≡ false
 byte-none s i b h l = ne_eqb (byte_at s i) b (λ e. no (byte_out s i h) e)
   where
     no : byte_at s i ≡ 256 → byte_at s i ≡ b → ⊥
@@ -72,20 +68,12 @@ pub plus-two : (m : ℕ) → m + 1 + 1 ≡ m + 2
 plus-two m = omega arith
 
 module _ (s : List ℕ) (i v w : ℕ) where
-  first-is : (a b : Bool) → (a && b) ≡ true → a ≡ true
-  first-is true b e = refl
-  first-is false b e = e
-
-  second_is : (a b : Bool) → (a && b) ≡ true → b ≡ true
-  second_is true b e = e
-  second_is false b e = absurd (true≢false (sym e))
-
   module _ (e : (eqb (byte_at s i) v && eqb (byte_at s (i + 1)) w) ≡ true) where
     pub pair-first : eqb (byte_at s i) v ≡ true
-    pair-first = first-is (eqb (byte_at s i) v) (eqb (byte_at s (i + 1)) w) e
+    pair-first = (and_parts (eqb (byte_at s i) v) (eqb (byte_at s (i + 1)) w) e).0
 
     pub pair-second : eqb (byte_at s (i + 1)) w ≡ true
-    pair-second = second_is (eqb (byte_at s i) v) (eqb (byte_at s (i + 1)) w) e
+    pair-second = (and_parts (eqb (byte_at s i) v) (eqb (byte_at s (i + 1)) w) e).1
 
     pub pair-there : w < 256 → i + 1 < length s
     pair-there h = byte-there s (i + 1) w h pair-second

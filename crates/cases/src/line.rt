@@ -1,107 +1,94 @@
-// A line and its parts. A part is named by the number of spaces before it.
-ghost use Rattle.std.specs.Prelude.{◌≡◌, ◌≢◌, ℕ, ◌<◌, ◌≤◌, length, slice_index};
+// A line and its parts. A part is named by the number of spaces before it; one that is not there is empty.
+ghost use Rattle.std.specs.Prelude.{◌<◌, ◌≤◌, length, IfSome};
+ghost use Rattle.cases.specs.declared.line.TheConstants.{LINE_SIZE};
 
-// The index of the first such byte from an index on, or the line's length where there is none.
-pub(crate) fn find(line: &[u8], from: usize, byte: u8) -> usize
-    requires { from ≤ length line.now }
-    ensures after { from ≤ result }
-    ensures within { result ≤ length line.now }
-    ensures before { (k : ℕ) → from ≤ k → k < result → slice_index line.now k ≢ byte }
-    ensures found { result < length line.now → slice_index line.now result ≡ byte }
-{
-    let mut i = from;
-    while i < line.len() {
-        if line[i] == byte {
-            return i;
-        }
-        i += 1;
-    }
-    i
+// A line may have a longer plan than is accepted.
+const LINE_SIZE: usize = 70000;
+
+// What a line stands for: the first bytes, so many.
+#[derive(Drop)]
+pub(crate) struct Line {
+    bytes: [u8; LINE_SIZE],
+    length: usize,
+    ghost inside: { length ≤ LINE_SIZE },
 }
 
-// A part with all that stands behind it.
-pub(crate) fn part(line: &[u8], spaces: usize) -> &[u8] {
-    let mut left = spaces;
-    let mut i = 0;
-    while i < line.len() {
-        if left == 0 {
-            return &line[i..];
+impl Line {
+    fn new() -> Line {
+        Line {
+            bytes: [0; LINE_SIZE],
+            length: 0,
         }
-        if line[i] == b' ' {
-            left -= 1;
-        }
-        i += 1;
     }
-    &line[i..]
+
+    pub(crate) fn text(&self) -> &[u8] {
+        &self.bytes[..self.length]
+    }
+
+    // Adds a text, if there is room.
+    fn append(&mut self, text: &[u8]) {
+        if let Some(room) = self.bytes[self.length..].get_mut(..text.len()) {
+            room.copy_from_slice(text);
+            self.length += text.len();
+        }
+    }
+}
+
+// A part with all that stands behind it. No line has more than eight.
+pub(crate) fn part(line: &[u8], spaces: usize) -> &[u8]
+    requires { spaces < 8 }
+{
+    line.splitn(spaces + 1, |byte| *byte == b' ')
+        .nth(spaces)
+        .unwrap_or_default()
 }
 
 // A part up to the next space.
 pub(crate) fn field(line: &[u8], spaces: usize) -> &[u8] {
-    let rest = part(line, spaces);
-    let end = find(rest, 0, b' ');
-    &rest[0..end]
+    line.split(|byte| *byte == b' ')
+        .nth(spaces)
+        .unwrap_or_default()
 }
 
 pub(crate) fn number(line: &[u8], spaces: usize) -> usize {
-    let run = decimal::run_at(part(line, spaces), 0, 18446744073709551615);
-    run.value as usize
+    decimal::run_at(field(line, spaces), 0, u64::MAX).value as usize
 }
 
 // How much is lent, of so much at the most.
 pub(crate) fn lent(line: &[u8], spaces: usize, most: usize) -> usize
     ensures { result ≤ most }
 {
-    let n = number(line, spaces);
-    if most < n {
-        return most;
-    }
-    n
+    number(line, spaces).min(most)
 }
 
-// Puts a text into the buffer at an index, if it has room there, and tells where it ends.
-fn append(text: &[u8], buffer: &mut [u8], to: usize) -> usize
-    requires { to ≤ length buffer.old }
-    ensures { result ≤ length buffer.new }
+// What stands before the first such byte, and what behind it.
+fn split_once(text: &[u8], sought: u8) -> Option<(&[u8], &[u8])>
+    ensures { IfSome result (λ parts. length parts.1.now < length text.now) }
 {
-    if buffer.len() - to < text.len() {
-        return to;
-    }
-    let end = to + text.len();
-    buffer[to..end].copy_from_slice(text);
-    end
+    let at = text.iter().position(|byte| *byte == sought)?;
+    Some((&text[..at], &text[at + 1..]))
 }
 
-// The same with a text so many times: `[`, how many times, a space, the text.
-fn append_repeated(bracket: &[u8], buffer: &mut [u8], to: usize) -> usize
-    requires { to ≤ length buffer.old }
-    ensures { result ≤ length buffer.new }
-{
-    let times = decimal::run_at(bracket, 1, 70000);
-    let text = part(bracket, 1);
-    let mut end = to;
-    let mut i = 0;
-    while i < times.value {
-        end = append(text, buffer, end);
-        i += 1;
+// The same with a text so many times: how many times, a space, the text.
+fn append_repeated(line: &mut Line, bracket: &[u8]) {
+    let times = decimal::run_at(bracket, 0, 70000).value;
+    for _ in 0..times {
+        line.append(part(bracket, 1));
     }
-    end
 }
 
-// Puts what a line stands for into the buffer, and tells how long it is.
-pub(crate) fn expand(line: &[u8], buffer: &mut [u8]) -> usize
-    ensures { result ≤ length buffer.new }
-{
-    let mut end = 0;
-    let mut at = 0;
-    while at < line.len() {
-        let open = find(line, at, b'[');
-        end = append(&line[at..open], buffer, end);
-        let close = find(line, open, b']');
-        if close == line.len() {
-            return end;
-        }
-        end = append_repeated(&line[open..close], buffer, end);
-        at = close + 1;
+// What a line stands for.
+pub(crate) fn expand(text: &[u8]) -> Line {
+    let mut line = Line::new();
+    let mut rest = text;
+    while let Some((before, bracket)) = split_once(rest, b'[') {
+        line.append(before);
+        let Some((repeated, behind)) = split_once(bracket, b']') else {
+            return line;
+        };
+        append_repeated(&mut line, repeated);
+        rest = behind;
     }
-    end
+    line.append(rest);
+    line
 }

@@ -18,105 +18,65 @@
 // A read or a write that fails ends it with that error, on the standard error, and status 1.
 #![tactic(auto)]
 
-ghost use Rattle.std.specs.Prelude.{◌≤◌, length, IfOk};
-
-use crate::line::{expand, field, find, lent, number, part};
-use crate::memory::hold;
-use crate::report::{print, print_output, print_reading, print_table, print_writing};
+use crate::line::{expand, field, lent, number, part};
+use crate::memory::{held_byte, held_word};
+use crate::report::{print_output, print_reading, print_table, print_writing};
+use std::array;
 use std::io::{self, Read};
 
 mod line;
 mod memory;
 mod report;
 
-fn insert(rt: &impl Print, line: &[u8], table: &mut [u64], out: &mut [u8]) -> io::Result<()> {
-    let writing = editor::insert(
-        part(line, 7),
-        number(line, 3),
-        number(line, 4),
-        field(line, 5),
-        field(line, 6),
-        table,
-        out,
-    );
-    print_writing(rt, writing)
-}
+const SOURCE_SIZE: usize = 65536;
 
 // Table and output are what is lent.
-fn call(
-    rt: &impl Print,
-    letter: u8,
-    line: &[u8],
-    table: &mut [u64],
-    out: &mut [u8],
-) -> io::Result<()> {
-    match letter {
-        b'r' => print_reading(rt, reader::read(part(line, 2), table)),
-        b'c' => print_writing(rt, editor::canonicalize(part(line, 3), table, out)),
-        _ => insert(rt, line, table, out),
+fn call(rt: &impl Print, line: &[u8], table: &mut [u64], out: &mut [u8]) -> io::Result<()> {
+    match line {
+        [b'r', ..] => print_reading(rt, reader::read(part(line, 2), table)),
+        [b'c', ..] => print_writing(rt, editor::canonicalize(part(line, 3), table, out)),
+        _ => {
+            let (node, place) = (number(line, 3), number(line, 4));
+            let (key, value) = (field(line, 5), field(line, 6));
+            let plan = part(line, 7);
+            print_writing(
+                rt,
+                editor::insert(plan, node, place, key, value, table, out),
+            )
+        }
     }
 }
 
 // At most half is lent, so that something always stands behind.
-fn run_call(
-    rt: &impl Print,
-    letter: u8,
-    line: &[u8],
-    table: &mut [u64],
-    out: &mut [u8],
-) -> io::Result<()> {
+fn run_line(rt: &impl Print, text: &[u8]) -> io::Result<()> {
+    let expanded = expand(text);
+    let line = expanded.text();
+    let mut table: [u64; 1600] = array::from_fn(held_word);
+    let mut out: [u8; 1400] = array::from_fn(held_byte);
     let words = lent(line, 1, table.len() / 2);
     let bytes = lent(line, 2, out.len() / 2);
-    call(rt, letter, line, &mut table[0..words], &mut out[0..bytes])?;
-    print_output(rt, out)?;
-    print_table(rt, table)
+    call(rt, line, &mut table[..words], &mut out[..bytes])?;
+    print_output(rt, &out)?;
+    print_table(rt, &table)
 }
 
-fn run_line(rt: &impl Print, letter: u8, line: &[u8]) -> io::Result<()> {
-    // A line may have a longer plan than is accepted.
-    let mut buffer = [0u8; 70000];
-    let mut table = [0u64; 1600];
-    let mut out = [0u8; 1400];
-    hold(&mut table, &mut out);
-    let size = expand(line, &mut buffer);
-    run_call(rt, letter, &buffer[0..size], &mut table, &mut out)
-}
-
+// A line that does not end is no line.
 fn run_lines(rt: &impl Print, source: &[u8]) -> io::Result<()> {
-    let mut at = 0;
-    while at < source.len() {
-        let end = find(source, at, b'\n');
-        if end == source.len() {
-            return Ok(());
+    for line in source.split_inclusive(|byte| *byte == b'\n') {
+        let [text @ .., b'\n'] = line else {
+            break;
+        };
+        rt.write_all(line)?;
+        if let [b'r' | b'c' | b'i', ..] = text {
+            run_line(rt, text)?;
         }
-        print(rt, &source[at..end + 1])?;
-        let letter = source[at];
-        match letter {
-            b'r' | b'c' | b'i' => run_line(rt, letter, &source[at..end])?,
-            _ => {}
-        }
-        at = end + 1;
     }
     Ok(())
 }
 
-// Reads until the buffer is full or the input ends, and tells how many bytes it put at the buffer's start.
-fn read_full<R: Read>(input: &mut R, buffer: &mut [u8]) -> io::Result<usize>
-    ensures { IfOk result (λ size. size ≤ length buffer.new) }
-{
-    let mut done = 0;
-    while done < buffer.len() {
-        let size = input.read(&mut buffer[done..])?;
-        if size == 0 {
-            break;
-        }
-        done += size;
-    }
-    Ok(done)
-}
-
 fn main(rt: HostRuntime) -> io::Result<()> {
-    let mut source = [0u8; 65536];
-    let size = read_full(&mut rt.stdin(), &mut source)?;
-    run_lines(&rt, &source[..size])
+    let mut source = [0u8; SOURCE_SIZE];
+    let mut input = rt.stdin().take(SOURCE_SIZE as u64);
+    let size = io::copy(&mut input, &mut &mut source[..])?;
+    run_lines(&rt, &source[..SOURCE_SIZE.min(size as usize)])
 }

@@ -1,8 +1,9 @@
 // What the memory lent holds before a call.
+ghost use Rattle.std.specs.Prelude.{◌≤◌, length};
 
 // No two words the same, and none that a table has.
 pub(crate) fn held_word(i: usize) -> u64 {
-    std::num::wrapping_sub_u64(12000000000000000000, i as u64)
+    12000000000000000000u64.wrapping_sub(i as u64)
 }
 
 // No two bytes near each other the same, and none of ASCII.
@@ -10,15 +11,14 @@ pub(crate) fn held_byte(i: usize) -> u8 {
     (128 + i % 128) as u8
 }
 
-pub(crate) fn hold(table: &mut [u64], out: &mut [u8]) {
-    let mut i = 0;
-    while i < table.len() {
-        table[i] = held_word(i);
-        i += 1;
-    }
-    i = 0;
-    while i < out.len() {
-        out[i] = held_byte(i);
-        i += 1;
-    }
+// How many are to be printed: all up to the last that is not as it was.
+pub(crate) fn changed<T: PartialEq + Copy, H: Fn(usize) -> T>(memory: &[T], held: H) -> usize
+    requires { (f : H) (i : _) → H.pre f i }
+    ensures { result ≤ length memory.now }
+{
+    memory
+        .iter()
+        .enumerate()
+        .rposition(|(i, now)| *now != held(i))
+        .map_or(0, |last| last + 1)
 }

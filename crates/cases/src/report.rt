@@ -1,106 +1,44 @@
 // What is printed under a line.
-ghost use Rattle.std.specs.Prelude.{◌≤◌, length};
-
-use crate::memory::{held_byte, held_word};
-use editor::Writing;
+use crate::memory::{changed, held_byte, held_word};
+use format::codes::Refusal;
 use format::table::WIDTH;
-use reader::Reading;
+use reader::Counts;
 use std::io;
 
-pub(crate) fn print(rt: &impl Print, text: &[u8]) -> io::Result<()> {
-    rt.write_all(text)
-}
-
-fn print_number(rt: &impl Print, before: &[u8], n: u64) -> io::Result<()> {
-    print(rt, before)?;
-    print!(rt; "{n}")
-}
-
-fn print_refusal(rt: &impl Print, code: u8, at: usize) -> io::Result<()> {
-    print_number(rt, b"    refused ", code as u64)?;
-    print_number(rt, b" at ", at as u64)
-}
-
-pub(crate) fn print_reading(rt: &impl Print, reading: Reading) -> io::Result<()> {
+pub(crate) fn print_reading(rt: &impl Print, reading: Result<Counts, Refusal>) -> io::Result<()> {
     match reading {
-        Reading::Accepted { nodes, ordinals } => {
-            print_number(rt, b"    nodes ", nodes as u64)?;
-            print_number(rt, b", ordinals ", ordinals as u64)
-        }
-        Reading::Refused { code, at } => print_refusal(rt, code, at),
+        Ok(Counts { nodes, ordinals }) => print!(rt; "    nodes {nodes}, ordinals {ordinals}"),
+        Err(refusal) => print!(rt; "    {refusal}"),
     }
 }
 
-pub(crate) fn print_writing(rt: &impl Print, writing: Writing) -> io::Result<()> {
+pub(crate) fn print_writing(rt: &impl Print, writing: Result<usize, Refusal>) -> io::Result<()> {
     match writing {
-        Writing::Written { length } => print_number(rt, b"    length ", length as u64),
-        Writing::Refused { code, at } => print_refusal(rt, code, at),
+        Ok(length) => print!(rt; "    length {length}"),
+        Err(refusal) => print!(rt; "    {refusal}"),
     }
-}
-
-// The index behind the last byte that is not as it was.
-fn output_end(out: &[u8]) -> usize
-    ensures { result ≤ length out.now }
-{
-    let mut end = out.len();
-    while 0 < end {
-        if out[end - 1] != held_byte(end - 1) {
-            return end;
-        }
-        end -= 1;
-    }
-    end
 }
 
 pub(crate) fn print_output(rt: &impl Print, out: &[u8]) -> io::Result<()> {
-    let end = output_end(out);
+    let end = changed(out, held_byte);
     if 0 < end {
-        print_number(rt, b", wrote ", end as u64)?;
-        print(rt, b": ")?;
-        print(rt, &out[0..end])?;
+        print!(rt; ", wrote {end}: ")?;
+        rt.write_all(&out[..end])?;
     }
     Ok(())
 }
 
-// How many words, from the first on, are zero.
-fn zeros(table: &[u64]) -> usize {
-    let mut i = 0;
-    while i < table.len() {
-        if table[i] != 0 {
-            return i;
-        }
-        i += 1;
-    }
-    i
-}
-
-// The index behind the last word that is not as it was.
-fn table_end(table: &[u64]) -> usize
-    ensures { result ≤ length table.now }
-{
-    let mut end = table.len();
-    while 0 < end {
-        if table[end - 1] != held_word(end - 1) {
-            return end;
-        }
-        end -= 1;
-    }
-    end
-}
-
 pub(crate) fn print_table(rt: &impl Print, table: &[u64]) -> io::Result<()> {
-    let end = table_end(table);
-    let mut i = zeros(table);
-    if 0 < i {
-        print_number(rt, b", zeros ", i as u64)?;
+    let end = changed(table, held_word);
+    let zeros = table.iter().take_while(|word| **word == 0).count();
+    if 0 < zeros {
+        print!(rt; ", zeros {zeros}")?;
     }
-    while i < end {
+    for (i, word) in table[..end].iter().enumerate().skip(zeros) {
         if i % WIDTH == 0 {
-            print_number(rt, b"\n    ", (i / WIDTH) as u64)?;
-            print(rt, b":")?;
+            print!(rt; "\n    {}:", i / WIDTH)?;
         }
-        print_number(rt, b" ", table[i])?;
-        i += 1;
+        print!(rt; " {word}")?;
     }
-    print(rt, b"\n")
+    println!(rt; "")
 }

@@ -1,5 +1,6 @@
 -- Laws of numerals, for every width: the shortest text, runs of digits, spellings. Assumes nothing.
-use Rattle.std.proofs.Common.{◌≡◌, ℕ, zero, suc, ◌+◌, ◌-◌, ◌*◌, ◌/◌, ◌%◌, ◌^◌, ◌<◌, ◌≤◌, Bool, true, false, ◌&&◌, T, leb, List, [], ◌∷◌, ◌++◌, length, replicate, sym, refl, ap, ◌∙◌, append_assoc, append-nil, arith, le→leb, leb→le, length-append, le-ltb, lt-ltb}
+use Rattle.std.proofs.Common.{◌≡◌, ℕ, zero, suc, ◌+◌, ◌-◌, ◌*◌, ◌/◌, ◌%◌, ◌^◌, ◌<◌, ◌≤◌, Bool, true, false, ◌&&◌, T, leb, List, [], ◌∷◌, ◌++◌, length}
+use Rattle.std.proofs.Common.{replicate, sym, refl, ap, ◌∙◌, append_assoc, append-nil, arith, le→leb, leb→le, length-append, le-ltb, lt-ltb}
 use lib.ListN.{length-replicate}
 use Rattle.decimal.specs.Digits.{is_digit, digits_of, after_digits, value_from, value, decimal, decimal_in, spelled}
 use Rattle.decimal.proofs.Decide.{Test, passed, failed, test, T_of, T_true, and_T, and_left, and_right, Order, below, above, order}
@@ -163,7 +164,8 @@ zeros_zero (suc z) ys = ap {B = List ℕ} (λ l. 48 ∷ l) (zeros_zero z ys)
 -- behind `p`, which spells a
 spelling-from : (bs p : List ℕ) (a z : ℕ) → p ≡ spelled z a → T (are_digits bs) → (z' : ℕ) × (p ++ bs ≡ spelled z' (value_from a bs))
 spelling-from [] p a z e t = (z, append-nil p ∙ e)
-spelling-from (b ∷ bs) p a z e t = go (order 0 a) (λ z' e'. spelling-from bs (p ++ (b ∷ [])) (a * 10 + (b - 48)) z' e' (and_right (is_digit b) (are_digits bs) t))
+spelling-from (b ∷ bs) p a z e t =
+    go (order 0 a) (λ z' e'. spelling-from bs (p ++ (b ∷ [])) (a * 10 + (b - 48)) z' e' (and_right (is_digit b) (are_digits bs) t))
   where
     l : 48 ≤ b
     l = digit_low b (and_left (is_digit b) (are_digits bs) t)

@@ -3,71 +3,56 @@ use Prim.Native.Nat.{ℕ, ◌≤◌, ◌<◌}
 use native.Mathlib.Nat.{zero-add}
 use native.Mathlib.Omega.{arith}
 use mathlib.Core.Path.{◌≡◌, refl, sym, ap, ◌∙◌, subst}
-use mathlib.Core.List.{List, [], ◌∷◌, ◌++◌}
+use mathlib.Core.List.{List, [], ◌++◌}
 use mathlib.Core.Bool.{Bool, true, false, true≢false}
 use mathlib.Core.Logic.{⊎_elim}
+use Rattle.std.proofs.Math.Logic.{∥∥₁_elim}
+use Rattle.std.proofs.Props.{props}
+use Rattle.std.specs.Prelude.{Result, Ok, Err}
 use lib.Dec.{leb, leb→le, not_T}
 use lib.ListN.{length, take, drop, replicate, drop_of_length-le}
-use lib.Seq.{sets, sets-eq, length-sets, take-append_seam}
-use borrow.Author.Tests.{le-leb, lt-leb}
-use Rattle.decimal.proofs.Decide.{Order, below, above, order, T_of, T_true, T_false, and_left, and_right}
+use lib.Seq.{sets-eq, length-sets, take-append_seam}
+use borrow.Author.Tests.{le-leb}
+use Rattle.decimal.proofs.Decide.{Order, below, above, order, T_of, T_false, and_left, and_right}
 use Rattle.format.specs.Syntax.{Value, print}
 use Rattle.format.specs.Limits.{source_limit, Terms}
-use Rattle.format.specs.Answer.{Answer, ok, refused, ◌>>=◌, require, refusal_of}
+use Rattle.format.specs.Answer.{Answer, ok, refused, ◌>>=◌, require}
 use Rattle.format.specs.declared.codes.Refusal.{Refusal}
+use Rattle.format.specs.Codes.{number_of}
 use Rattle.format.specs.Read.{read}
 use Rattle.format.specs.Canonical.{canonical}
 use Rattle.format.specs.Reading.{terms_of, cleared, over, table_after}
 use Rattle.format.specs.Fits.{IsPlan}
-use Rattle.format.proofs.Answers.{not_both, require-ok}
 use Rattle.format.proofs.Inversion.{read_ok}
 use Rattle.format.proofs.Results.{after-length, after-terms}
 use Rattle.format.specs.Writing.{fits_in, with_room, canonical_bytes, insertion_of, insert_bytes}
 use Rattle.format.proofs.Answers.{not_both, bind-refused}
 use Rattle.editor.specs.Promise.{writing_answer, Writes}
-use Rattle.editor.specs.Ends.{room_answer, room_of, Refuses, Settles, Short, Spared, shrinks, short, Roomed, EditFits}
+use Rattle.editor.specs.Ends.{room_answer, Refuses, Settles, Short, Spared, shrinks, short, EditFits}
 use Rattle.tokens.specs.Tokens.{Token, tokens, write_tokens}
 use Rattle.tokens.specs.Between.{Stretch}
 use Rattle.tokens.proofs.TokenLaws.{tokens-write, tokens-canonical, tokens-fit}
 use Rattle.tokens.proofs.Stretches.{between_stretch}
 use Rattle.rewriting.specs.declared.Edit.{Edit}
-use Rattle.rewriting.specs.declared.Edited.{Edited}
 use Rattle.rewriting.specs.declared.rewrite.Change.{Change}
 use Rattle.rewriting.specs.Output.{Puts}
 use Rattle.rewriting.specs.Rewriting.{changed_text}
-use Rattle.rewriting.specs.Edited.{canonical_text, edited_text, writable, edited_answer, Edits, Parted}
+use Rattle.rewriting.specs.Edited.{canonical_text, edited_text, writable, Parted}
 use Rattle.rewriting.specs.declared.splice.Splice.{Splice}
 use Rattle.rewriting.proofs.Anywhere.{canonical_anywhere}
-use Rattle.rewriting.proofs.Editable.{answer-by, output-by, by-stands, edited_most}
+use Rattle.rewriting.proofs.Editable.{by-stands, edited_most}
 use Rattle.rewriting.proofs.Measures.{texts_inside, canonical-text-most}
-use Rattle.placing.specs.declared.Placing.{Placing}
-use Rattle.placing.specs.Locating.{placing_answer, spot_for, table_located, Locates}
+use Rattle.placing.specs.Locating.{spot_for, table_located, Locates}
 use Rattle.placing.proofs.SpotLaws.{Located, spot-leads}
-use Rattle.editor.specs.declared.Room.{Room}
-use Rattle.editor.specs.declared.Writing.{Writing}
 use Rattle.editor.proofs.Canonicalizing.{by_value}
 
 -- ---- 14
-
-pub room-short : (room length : ℕ) → room < length → fits_in room length ≡ false
-room-short room length h = rw (lt-leb length room h)
-
-pub room-is : (room length : ℕ) → length ≤ room → fits_in room length ≡ leb length source_limit
-room-is room length h = rw (le-leb length room h)
-
--- a text put where there is no room for any of it leaves nothing
-untouched : {part : List ℕ} (bytes : List ℕ) → part ≡ sets [] 0 bytes → (out : List ℕ) → part ++ out ≡ out
-untouched {part} bytes e out = go part (ap length e ∙ length-sets [] 0 bytes)
-  where
-    go : (p : List ℕ) → length p ≡ 0 → p ++ out ≡ out
-    go [] e = refl
-    go (x ∷ p) e = absurd (omega (arith, e))
 
 -- the output as it was
 pub puts_on : {bytes out out₁ : List ℕ} {n : ℕ} {out' : List ℕ} → out₁ ≡ out → Puts bytes 0 out₁ n out' → Puts bytes 0 out n out'
 puts_on {bytes} {n = n} {out'} e p = subst (λ (o : List ℕ). Puts bytes 0 o n out') e p
 
-pub writes-on : {text : Answer (List ℕ)} {source before after out out₁ : List ℕ} {r : Writing} → out₁ ≡ out
+pub writes-on : {text : Answer (List ℕ)} {source before after out out₁ : List ℕ} {r : Result ℕ Refusal} → out₁ ≡ out
     → Writes (terms_of before) text source before after out out r → Writes (terms_of before) text source before after out out₁ r
 writes-on {text} {source} {before} {after} {out} {r = r} e w = subst (λ (o : List ℕ). Writes (terms_of before) text source before after out o r) (sym e) w
 
@@ -95,14 +80,14 @@ module _ {bytes : List ℕ} {n : ℕ} {out out' : List ℕ} (put : Puts bytes 0 
 
 module _ {text : Answer (List ℕ)} (source before out : List ℕ) where
   -- a refusal that is the definition's own, with nothing written
-  refusal : {after : List ℕ} {code at : ℕ} {r : Writing} → text ≡ refused code at → writing_answer r ≡ refused code at → after ≡ cleared before
+  refusal : {after : List ℕ} {code at : ℕ} {r : Result ℕ Refusal} → text ≡ refused code at → writing_answer r ≡ refused code at → after ≡ cleared before
       → Writes (terms_of before) text source before after out out r
   refusal {after} {r = r} e f t =
       subst (λ (a : Answer (List ℕ)). Writes (terms_of before) a source before after out out r) (sym e)
       (record { answer = f; leaves = record { table = t; output = refl } })
 
-  pub writes-refused : {after : List ℕ} {code at : ℕ} → text ≡ refused code at → after ≡ cleared before
-      → Writes (terms_of before) text source before after out out (Writing.Refused code at)
+  pub writes-refused : {after : List ℕ} {r : Refusal} → text ≡ refused (number_of r.code) r.at → after ≡ cleared before
+      → Writes (terms_of before) text source before after out out (Err r)
   unfolding writing_answer
   writes-refused e t = refusal e refl t
 
@@ -111,12 +96,12 @@ module _ {text : Answer (List ℕ)} (source before out : List ℕ) where
     roomed : (b : Bool) → fits_in (length out) (length bytes) ≡ b → text ≡ (require b 14 0 >>= λ u. ok bytes)
     roomed b f = e ∙ ap (λ (b : Bool). require b 14 0 >>= λ u. ok bytes) f
 
-    pub writes_14 : fits_in (length out) (length bytes) ≡ false → {after : List ℕ} {r : Writing} → Refuses between after r
+    pub writes_14 : fits_in (length out) (length bytes) ≡ false → {after : List ℕ} {r : Result ℕ Refusal} → Refuses between after r
         → Writes (terms_of before) text source before after out out r
     writes_14 f c = refusal (roomed false f) c.answer (c.table ∙ ap (λ (k : ℕ). replicate k 0) (ap length t ∙ after-length (terms_of before) source before (omega arith)))
 
-    pub writes-text : fits_in (length out) (length bytes) ≡ true → {n : ℕ} {out' : List ℕ} → Puts bytes 0 out n out' → {after : List ℕ} {r : Writing}
-        → Settles (take n out') between after r → Writes (terms_of before) text source before after out out' r
+    pub writes-text : fits_in (length out) (length bytes) ≡ true → {n : ℕ} {out' : List ℕ} → Puts bytes 0 out n out'
+        → {after : List ℕ} {r : Result ℕ Refusal} → Settles (take n out') between after r → Writes (terms_of before) text source before after out out' r
     writes-text f {n} {out'} put {after} {r} c =
         let same : take n out' ≡ bytes = prefix put f in
         let read_again = ap (λ (b : List ℕ). table_after (terms_of between) b between) same ∙ ap (λ (u : List ℕ). table_after (terms_of u) bytes u) t
@@ -127,9 +112,6 @@ module _ {text : Answer (List ℕ)} (source before out : List ℕ) where
         })
 
 -- ---- an edit
-
-pub is-short : (room source key value : ℕ) → source_limit ≤ room → source ≤ 49000 → key ≤ 2000 → leb value 2000 ≡ true → Short room source key value
-is-short room source key value h i j e = record { enough = h; low = omega (arith, i, j, leb→le value 2000 (T_of e)) }
 
 -- an edit of a plan is one that is written, unless its texts are too long
 fit-writable : (source t : List ℕ) (e : Edit) (key value : List ℕ) → EditFits source t e key value → length key ≤ source_limit → length value ≤ source_limit
@@ -177,50 +159,17 @@ module _ {source t : List ℕ} {e : Edit} {key value : List ℕ} (z : EditFits s
       by (above h) (below i) = too_long z.value i
       by (above h) (above i) = absurd (true≢false (sym (fit-writable source t e key value z h i) ∙ g))
 
--- what is said of the room
-pub says-enough : {b : Bool} → b ≡ true → room_answer Room.Enough ≡ require b 14 0
-unfolding room_answer
-says-enough f = sym (ap (λ (b : Bool). require b 14 0) f)
+-- of an edit whose fitting is known as a fact alone
+module _ {source t : List ℕ} {e : Edit} {key value : List ℕ} (z : ∥ EditFits source t e key value ∥₁) where
+  pub spared_fits : {room : ℕ} → Spared room e (length source) (length key) (length value) → fits_in room (length (edited_text source t e key value)) ≡ true
+  spared_fits s = ∥∥₁_elim z (Prim.hlevel props) (λ f. spared_room source t e key value s f)
 
-pub says_exceeded : {b : Bool} → b ≡ false → room_answer Room.Exceeded ≡ require b 14 0
-unfolding room_answer
-says_exceeded f = sym (ap (λ (b : Bool). require b 14 0) f)
-
-pub size_of : {m : Edited} {n : ℕ} (room : ℕ) → m ≡ Edited.Written n → room_of room (edited_answer m) ≡ require (fits_in room n) 14 0
-unfolding edited_answer
-size_of room e = ap (λ (m : Edited). room_of room (edited_answer m)) e
-
-pub unfit_exceeded : {m : Edited} (room : ℕ) → m ≡ Edited.Unfit → room_answer Room.Exceeded ≡ room_of room (edited_answer m)
-unfolding edited_answer room_answer
-unfit_exceeded room e = ap (λ (m : Edited). room_of room (edited_answer m)) (sym e)
-
--- of an edit that was measured
-pub measured_roomed : {source t : List ℕ} {e : Edit} {key value : List ℕ} → EditFits source t e key value → (out : List ℕ) {part : List ℕ} {m : Edited}
-    → Edits source t e key value [] part m → {r : Room} → room_answer r ≡ room_of (length out) (edited_answer m) → Roomed source t e key value out (part ++ out) r
-measured_roomed {source} {t} {e} {key} {value} z out {part} g {r} a = by (writable (length source) e (length key) (length value)) refl
-  where
-    by : (b : Bool) → writable (length source) e (length key) (length value) ≡ b → Roomed source t e key value out (part ++ out) r
-    by true f = record { answer = a ∙ ap (room_of (length out)) (answer-by g true f); same = untouched (edited_text source t e key value) (output-by g true f) out }
-    by false f = record {
-      answer = a ∙ ap (room_of (length out)) (answer-by g false f) ∙ sym (ap (λ (b : Bool). require b 14 0) (unfit_14 z (length out) f));
-      same = ap (λ (p : List ℕ). p ++ out) (output-by g false f);
-    }
-
--- what was said of it
-module _ {source t : List ℕ} {e : Edit} {key value out out' : List ℕ} {r : Room} (g : Roomed source t e key value out out' r) where
-  pub room-there : r ≡ Room.Enough → fits_in (length out) (length (edited_text source t e key value)) ≡ true
-  unfolding room_answer
-  room-there i =
-      let b : Bool = fits_in (length out) (length (edited_text source t e key value)) in
-      T_true b (require-ok b 14 0 tt (sym g.answer ∙ ap room_answer i))
-
-  pub room_missing : r ≡ Room.Exceeded → fits_in (length out) (length (edited_text source t e key value)) ≡ false
-  unfolding room_answer
-  room_missing i = short (fits_in (length out) (length (edited_text source t e key value))) (sym g.answer ∙ ap room_answer i)
-    where
-      short : (b : Bool) → require b 14 0 ≡ refused 14 0 → b ≡ false
-      short true f = absurd (not_both (sym f))
-      short false f = refl
+-- what was said of the room
+pub room_said : (r b : Bool) → room_answer r ≡ require b 14 0 → b ≡ r
+room_said true true e = refl
+room_said true false e = absurd (not_both (sym e))
+room_said false true e = absurd (not_both e)
+room_said false false e = refl
 
 -- ---- retyping
 
@@ -265,12 +214,11 @@ module _ (before source : List ℕ) (v : Value) (e : read (terms_of before) sour
 
 -- ---- inserting
 
--- the spot of what was placed, and what it leads to
-module _ {source : List ℕ} {node place : ℕ} {key value before after : List ℕ} {placing : Placing}
-    (l : Locates source node place key value before after placing) where
-  module _ {p : Splice} (e : placing ≡ Placing.At p) where
+-- the spot that was found, and what it leads to
+module _ {source : List ℕ} {node place : ℕ} {key value before after : List ℕ} where
+  module _ {p : Splice} (l : Locates source node place key value before after (Ok p)) where
     spot_is : spot_for (terms_of before) source node place key value ≡ ok p
-    spot_is = sym l.answer ∙ ap placing_answer e
+    spot_is = sym l.answer
 
     pub spot-table : after ≡ table_after (terms_of before) source before
     spot-table = l.table ∙ ap (λ (a : Answer Splice). table_located (terms_of before) a source before) spot_is
@@ -292,21 +240,16 @@ module _ {source : List ℕ} {node place : ℕ} {key value before after : List �
         same_splice : {q r : Splice} → Edit.Splice q ≡ Edit.Splice r → q ≡ r
         same_splice i = cc
 
-  module _ {code at : ℕ} (e : placing ≡ Placing.Refused code at) where
-    refused-is : spot_for (terms_of before) source node place key value ≡ refused code at
-    refused-is = sym l.answer ∙ ap placing_answer e
-
+  module _ {r : Refusal} (l : Locates source node place key value before after (Err r)) where
     -- refused before 14, so whatever room the output has
-    insert-refused : (room : ℕ) → insert_bytes (terms_of before) room source node place key value ≡ refused code at
+    insert-refused : (room : ℕ) → insert_bytes (terms_of before) room source node place key value ≡ refused (number_of r.code) r.at
     unfolding insert_bytes spot_for
     insert-refused room =
-        let s = bind-refused (insertion_of (terms_of before) source node place key value) _ code at refused-is in
+        let s = bind-refused (insertion_of (terms_of before) source node place key value) _ (number_of r.code) r.at (sym l.answer) in
         ⊎_elim (λ i. rw i) (λ i. absurd (not_both (sym i.2))) s
 
-    pub writes_unplaced : (out : List ℕ) {r : Refusal} → r ≡ refusal_of (placing_answer placing)
-        → Writes (terms_of before) (insert_bytes (terms_of before) (length out) source node place key value)
-        source before after out out (Writing.Refused r.code r.at)
-    writes_unplaced out h =
-        writes-refused source before out
-        (insert-refused (length out) ∙ ap (λ (r : Refusal). refused r.code r.at) (sym (h ∙ ap (λ (x : Placing). refusal_of (placing_answer x)) e)))
-        (l.table ∙ ap (λ (a : Answer Splice). table_located (terms_of before) a source before) refused-is)
+    pub writes_unplaced : (out : List ℕ) → Writes (terms_of before) (insert_bytes (terms_of before) (length out) source node place key value)
+        source before after out out (Err r)
+    writes_unplaced out =
+        writes-refused source before out (insert-refused (length out))
+        (l.table ∙ ap (λ (a : Answer Splice). table_located (terms_of before) a source before) (sym l.answer))

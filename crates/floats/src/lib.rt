@@ -3,83 +3,61 @@
 // It lies below the scanner, so that an edit of it proves its own layer.
 #![tactic(auto)]
 
-ghost use Rattle.std.specs.Prelude.{◌≡◌, ◌≤◌, length, drop};
-ghost use Rattle.format.specs.Limits.{is_float, is_decimal, is_exponent};
-ghost use Rattle.floats.specs.SignEnd.{SignEnd};
+ghost use Rattle.std.specs.Prelude.{◌≡◌, length};
+ghost use Rattle.decimal.specs.Digits.{digits_of, after_digits};
+ghost use Rattle.format.specs.Limits.{sign_of, is_float, is_decimal, is_exponent};
 
-use bytes_at::{byte_is, same_bytes};
+use bytes_at::same_bytes;
 
-// The index after an optional sign.
-fn sign_end(part: &[u8], at: usize) -> usize
-    requires { at ≤ length part.now }
-    ensures { SignEnd part.now at result }
+// What stands behind an optional sign.
+fn behind_sign(text: &[u8]) -> &[u8]
+    ensures { result.now ≡ (sign_of text.now).1 }
 {
-    if byte_is(part, at, b'+') {
-        return at + 1;
-    }
-    if byte_is(part, at, b'-') {
-        return at + 1;
-    }
-    at
-}
-
-// Whether nothing, or an exponent, stands from an index to the end.
-fn is_exponent(part: &[u8], at: usize) -> bool
-    requires { at ≤ length part.now }
-    ensures { result ≡ is_exponent (drop at part.now) }
-{
-    if part.len() <= at {
-        return true;
-    }
-    let b = part[at];
-    match b {
-        b'e' | b'E' => {
-            let from = sign_end(part, at + 1);
-            let run = decimal::run_at(part, from, 0);
-            let end = run.next;
-            if from < end {
-                return end == part.len();
-            }
-            false
-        }
-        _ => false,
+    match text {
+        [b'+' | b'-', rest @ ..] => rest,
+        _ => text,
     }
 }
 
-// Whether digits with at most one point, and then nothing or an exponent, stand from an index to the end.
-fn is_decimal(part: &[u8], at: usize) -> bool
-    requires { at ≤ length part.now }
-    ensures { result ≡ is_decimal (drop at part.now) }
+// How many digits stand in front, and what stands behind them.
+fn split_digits(text: &[u8]) -> (usize, &[u8])
+    ensures count { result.0 ≡ length (digits_of text.now) }
+    ensures rest { result.1.now ≡ after_digits text.now }
 {
-    let run = decimal::run_at(part, at, 0);
-    let end = run.next;
-    if byte_is(part, end, b'.') {
-        let fraction = decimal::run_at(part, end + 1, 0);
-        let last = fraction.next;
-        if last == at + 1 {
-            return false;
-        }
-        return is_exponent(part, last);
-    }
-    if end == at {
-        return false;
-    }
-    is_exponent(part, end)
+    let count = decimal::run_at(text, 0, 0).next;
+    (count, &text[count..])
+}
+
+// Whether this is nothing, or an exponent.
+fn is_exponent(text: &[u8]) -> bool
+    ensures { result ≡ is_exponent text.now }
+{
+    let [b'e' | b'E', exponent @ ..] = text else {
+        return text.is_empty();
+    };
+    let (count, rest) = split_digits(behind_sign(exponent));
+    0 < count && rest.is_empty()
+}
+
+// Whether this is digits with at most one point, and then nothing or an exponent.
+fn is_decimal(text: &[u8]) -> bool
+    ensures { result ≡ is_decimal text.now }
+{
+    let (whole, rest) = split_digits(text);
+    let (fraction, rest) = match rest {
+        [b'.', digits @ ..] => split_digits(digits),
+        _ => (0, rest),
+    };
+    (0 < whole || 0 < fraction) && is_exponent(rest)
 }
 
 // Whether the part is a float text.
+#[tactic(auto, unfolding(format::specs::Limits::is_float))]
 pub fn is_float(part: &[u8]) -> bool
     ensures { result ≡ is_float part.now }
 {
-    if same_bytes(part, b"INF") {
-        return true;
-    }
-    if same_bytes(part, b"-INF") {
-        return true;
-    }
-    if same_bytes(part, b"NAN") {
-        return true;
-    }
-    let from = sign_end(part, 0);
-    is_decimal(part, from)
+    same_bytes(part, b"INF")
+        || same_bytes(part, b"-INF")
+        || same_bytes(part, b"NAN")
+        || is_decimal(behind_sign(part))
 }

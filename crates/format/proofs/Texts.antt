@@ -14,7 +14,7 @@ use Rattle.decimal.proofs.Decide.{Test, passed, failed, test, T_of}
 use Rattle.decimal.proofs.Numerals.{digits_are, digits-split, spelling, spelled-length}
 use Rattle.format.specs.Bytes.{byte, bytes, same_bytes}
 use Rattle.format.specs.Kind.{Kind, tag, key_kinds}
-use Rattle.format.specs.Syntax.{int_key, string_key, null, bool, int, float, string, array, object, Spelling, Sign, Literal, Quoted, Key, Scalar, Container}
+use Rattle.format.specs.Syntax.{int_key, string_key, array, object, Spelling, Sign, Literal, Quoted, Key, Scalar, Container}
 use Rattle.format.specs.Syntax.{plus_text, write_number, write_sign, write_quoted, write_int, write_key, bit, write_scalar, write_container}
 use Rattle.format.specs.Limits.{number_limit, integer_limit, sign_of, is_float}
 use Rattle.format.specs.Fits.{IntFits, QuotedFits, KeyFits, ScalarFits, ContainerFits, allowed}

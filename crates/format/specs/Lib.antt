@@ -12,6 +12,7 @@ pub mod Limits  -- what the grammar and reading share: limits, a service's terms
 pub mod Fits  -- which syntaxes are plans (`Valid`), and which of them have room in a table (`Fits`)
 -- reading, and what is read
 pub mod Answer  -- what was read, or a refusal with its number and position
+pub mod Codes  -- the numbers of refusals, for code
 pub mod Read  -- reading: the plan's texts, and the order of refusals over any form of writing
 pub mod Table  -- the nodes of a syntax, and their words
 pub mod Meaning  -- what a plan's bytes mean (`Means`), with no word of reading

@@ -1,48 +1,70 @@
 // Refusals, for code: "A refusal returns its number and a position".
-#[derive(Clone, Copy)]
+ghost use Rattle.std.specs.Prelude.{◌≡◌};
+ghost use Rattle.format.specs.Codes.{number_of};
+
+use std::fmt;
+
+// What a refusal refuses, by the paper's table; the comment at each is its row there.
+#[derive(Clone, Copy, Debug, PartialEq, Eq)]
+pub enum Code {
+    // "plan longer than 65,536 bytes"
+    SourceTooLong = 1,
+    // "text not of its kind's form, or ends too soon"
+    TextUnfit = 2,
+    // "value's letter not one of the nine"
+    TagUnknown = 3,
+    // "key's letter not allowed in this container"
+    KeyNotAllowed = 4,
+    // "i out of range, or a number above 65,536"
+    OutOfRange = 5,
+    // "no earlier value carries the number named"
+    NothingNamed = 6,
+    // "no room for the node"
+    TableFull = 7,
+    // "depth above 64"
+    TooDeep = 8,
+    // "key equal to an earlier key of its container"
+    KeyRepeated = 9,
+    // "bytes after the plan"
+    BytesBehind = 10,
+    // "index names no `a` node"
+    NoArray = 11,
+    // "place above the array's count"
+    NoPlace = 12,
+    // "key or value text unfit"
+    PairUnfit = 13,
+    // "bytes to write exceed the output's length or 65,536"
+    OutputTooShort = 14,
+}
+
+// A refusal: what is refused, and where.
+#[derive(Clone, Copy, Debug, PartialEq, Eq)]
 pub struct Refusal {
-    pub code: u8,
+    pub code: Code,
     pub at: usize,
 }
 
-// "plan longer than 65,536 bytes"
-pub const SOURCE_TOO_LONG: u8 = 1;
+impl Code {
+    // The refusal of this number at a position.
+    pub fn at(self, at: usize) -> Refusal
+        ensures { result ≡ record { code = self; at = at } }
+    {
+        Refusal { code: self, at }
+    }
+}
 
-// "text not of its kind's form, or ends too soon"
-pub const TEXT_UNFIT: u8 = 2;
+// The paper's number.
+impl From<Code> for u8 {
+    ghost from_gives = { λ code n. n ≡ number_of code };
 
-// "value's letter not one of the nine"
-pub const TAG_UNKNOWN: u8 = 3;
+    fn from(code: Code) -> u8 {
+        code as u8
+    }
+}
 
-// "key's letter not allowed in this container"
-pub const KEY_NOT_ALLOWED: u8 = 4;
-
-// "i out of range, or a number above 65,536"
-pub const OUT_OF_RANGE: u8 = 5;
-
-// "no earlier value carries the number named"
-pub const NOTHING_NAMED: u8 = 6;
-
-// "no room for the node"
-pub const TABLE_FULL: u8 = 7;
-
-// "depth above 64"
-pub const TOO_DEEP: u8 = 8;
-
-// "key equal to an earlier key of its container"
-pub const KEY_REPEATED: u8 = 9;
-
-// "bytes after the plan"
-pub const BYTES_BEHIND: u8 = 10;
-
-// "index names no `a` node"
-pub const NO_ARRAY: u8 = 11;
-
-// "place above the array's count"
-pub const NO_PLACE: u8 = 12;
-
-// "key or value text unfit"
-pub const PAIR_UNFIT: u8 = 13;
-
-// "bytes to write exceed the output's length or 65,536"
-pub const OUTPUT_TOO_SHORT: u8 = 14;
+// As the programs print it: `refused 2 at 0`.
+impl fmt::Display for Refusal {
+    fn fmt<W: fmt::Write>(&self, f: &mut fmt::Formatter<W>) -> fmt::Result {
+        write!(f, "refused {} at {}", u8::from(self.code), self.at)
+    }
+}

@@ -2,8 +2,8 @@
 ghost use Rattle.std.specs.Prelude.{◌≡◌};
 ghost use Rattle.format.specs.Kind.{has_ordinal, may_be_key, has_text};
 
-// A kind, by its tag. (The paper's letter of a kind is its tag.)
-#[derive(Clone, Copy)]
+// A kind, by its tag. (The paper's letter of a kind is its tag.) A struct with constants, and tags handed on as bytes: paper 01 asks for this form.
+#[derive(Clone, Copy, Debug, PartialEq, Eq)]
 pub struct Kind {
     pub tag: u8,
 }

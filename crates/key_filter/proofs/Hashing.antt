@@ -37,7 +37,8 @@ word_fewer : (t : List ℕ) → length t < 8 → word_of t ≡ rest_of t
 unfolding word_of
 word_fewer t l = rw (word_of, lt-leb 8 (length t) l)
 
-pub half_is : (s : List ℕ) (at : ℕ) → half_of (drop at s) ≡ get_or s at 0 + get_or s (at + 1) 0 * 2 ^ 8 + get_or s (at + 2) 0 * 2 ^ 16 + get_or s (at + 3) 0 * 2 ^ 24
+pub half_is : (s : List ℕ) (at : ℕ)
+    → half_of (drop at s) ≡ get_or s at 0 + get_or s (at + 1) 0 * 2 ^ 8 + get_or s (at + 2) 0 * 2 ^ 16 + get_or s (at + 3) 0 * 2 ^ 24
 unfolding half_of
 half_is s at = omega (arith, ap (λ (n : ℕ). get_or s n 0) (add-zero at), get_or-drop at s 0 0, get_or-drop at s 1 0, get_or-drop at s 2 0, get_or-drop at s 3 0)
 

@@ -47,7 +47,8 @@ module _ (m : List ℕ) (i j q : ℕ) (in₁ : i < length m) (in₂ : j < length
       go : (b : Bool) → eqb k j ≡ b → (d : Bool) → eqb k i ≡ d → bit_and (get_or (with_mask m i j q) k 0) n ≡ n
       go true e d f = more (at j (eqb-true k j e) at_second)
       go false e true f = more (at i (eqb-true k i f) (at_first (eqb i j) refl))
-      go false e false f = ap (λ (w : ℕ). bit_and w n) (elsewhere k (eqb-false k j e) ∙ get_or-set_other m i k (bit_or (get_or m i 0) q) 0 (eqb-false k i f)) ∙ c
+      go false e false f =
+          ap (λ (w : ℕ). bit_and w n) (elsewhere k (eqb-false k j e) ∙ get_or-set_other m i k (bit_or (get_or m i 0) q) 0 (eqb-false k i f)) ∙ c
 
   own_first : bit_and (get_or (with_mask m i j q) i 0) q ≡ q
   own_first = ap (λ (w : ℕ). bit_and w q) (at_first (eqb i j) refl) ∙ set-covers (get_or m i 0) q
@@ -129,7 +130,9 @@ mark-grows m h = record { keeps = λ g q. go g q (eqb (length m) 0) refl }
     go g q true e = marked-none (mark m h) g (mark-length m h ∙ eqb-true (length m) 0 e)
     go g q false e =
         let some : 0 < length m = omega (arith, eqb-false (length m) 0 e) in
-        let keep = kept m (first (length m) h) (second (length m) h) (mask_of h) (slot_in (length m) (h / 2 ^ 44) some) (slot_in (length m) (h / 2 ^ 32) some) in
+        let in₁ = slot_in (length m) (h / 2 ^ 44) some in
+        let in₂ = slot_in (length m) (h / 2 ^ 32) some in
+        let keep = kept m (first (length m) h) (second (length m) h) (mask_of h) in₁ in₂ in
         is-marked (mark m h) (length m) (mark-length m h) some g
         (keep (first (length m) g) (mask_of g) (in_first m (length m) refl some g q))
         (keep (second (length m) g) (mask_of g) (in_second m (length m) refl some g q))

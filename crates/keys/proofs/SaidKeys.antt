@@ -4,12 +4,11 @@ use native.Mathlib.Omega.{arith}
 use mathlib.Core.Path.{◌≡◌, refl, sym, ap, ap₂, ◌∙◌}
 use mathlib.Core.Bool.{Bool, true, false, not, true≢false}
 use mathlib.Core.List.{List, []}
-use lib.Dec.{eqb}
 use lib.ListN.{length, take, drop}
 use borrow.Author.Tests.{ne_eqb, le-leb, lt-leb}
 use Rattle.decimal.proofs.Decide.{Test, passed, failed, test, T_true}
 use Rattle.format.specs.Bytes.{same_bytes}
-use Rattle.format.specs.Kind.{Kind, tag, is_tag_of, key_kinds, has_text}
+use Rattle.format.specs.Kind.{is_tag_of, key_kinds, has_text}
 use Rattle.format.specs.Syntax.{int_key, string_key, Key}
 use Rattle.format.specs.Keys.{KeyMeaning, key_meaning, same_integer, same_key}
 use Rattle.format.specs.Canonical.{literal_of, quoted_of}
@@ -39,12 +38,6 @@ unfolding text_of
 text-long s o n h k = rw (text_of, le-leb o (length s) h, lt-leb n (length s - o) k)
 
 -- ---- kinds
-
-pub above-no-text : (n : ℕ) → 255 < n → has_text n ≡ false
-above-no-text n l = rw (no-tag Kind.float (omega arith), no-tag Kind.string (omega arith), no-tag Kind.object (omega arith))
-  where
-    no-tag : (k : Kind) → tag k < n → eqb n (tag k) ≡ false
-    no-tag k h = ne_eqb n (tag k) (λ e. omega (arith, h, e))
 
 pub text-array : (o : Bool) (w : KeyWords) → o ≡ true → says_text o w ≡ has_text w.tag
 unfolding says_text

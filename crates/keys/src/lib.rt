@@ -30,33 +30,25 @@ impl KeyWords {
     pub fn has_text(self) -> bool
         ensures { result ≡ has_text self.tag }
     {
-        if 255 < self.tag {
+        let Ok(tag) = u8::try_from(self.tag) else {
             return false;
-        }
-        let kind = Kind {
-            tag: self.tag as u8,
         };
-        kind.has_text()
+        Kind { tag }.has_text()
+    }
+
+    // The text that they tell; none where it does not stand in the source.
+    #[tactic(auto, unfolding(crate::specs::KeyWords::text_of))]
+    fn text(self, source: &[u8]) -> &[u8]
+        ensures { result.now ≡ text_of source.now self.content self.size }
+    {
+        let from = self.content as usize;
+        let to = from.saturating_add(self.size as usize);
+        source.get(from..to).unwrap_or(&[])
     }
 }
 
-// The text of this length at an offset; none where it does not stand in the source.
-fn text_of(source: &[u8], offset: u64, size: u64) -> &[u8]
-    ensures { result.now ≡ text_of source.now offset size }
-{
-    let from = offset as usize;
-    let count = size as usize;
-    if source.len() < from {
-        return &source[..0];
-    }
-    if source.len() - from < count {
-        return &source[..0];
-    }
-    let to = from + count;
-    &source[from..to]
-}
-
-// The key that stands at a node; every word of a node that the table has not is 0.
+// The key that stands at a node; every word of a node that the table has not is 0, as `key_words_in` says.
+#[tactic(auto, unfolding(crate::specs::KeyWords::key_words_in))]
 pub fn key_at(table: &[u64], node: usize) -> KeyWords
     ensures { result ≡ key_words_in table.now node }
 {
@@ -76,46 +68,29 @@ pub fn key_at(table: &[u64], node: usize) -> KeyWords
 }
 
 // Whether the words of a key tell a text: in an object always, in an array where its kind has one.
+#[tactic(auto, unfolding(crate::specs::KeyWords::says_text))]
 fn says_text(of_array: bool, key: KeyWords) -> bool
     ensures { result ≡ says_text of_array key }
 {
-    if of_array {
-        return key.has_text();
-    }
-    true
+    !of_array || key.has_text()
 }
 
 // Whether two keys of one container are equal. Patterns are compared before the other's kind is looked at, so that the walk over integers seldom looks.
+// A key and its source stay apart: a struct of both would be made at each step of the walk in `has_key`, for this one call.
 fn same_key(of_array: bool, source: &[u8], a: KeyWords, other: &[u8], b: KeyWords) -> bool
     ensures { result ≡ same_key (key_said of_array source.now a) (key_said of_array other.now b) }
 {
     if !says_text(of_array, a) {
-        if a.content != b.content {
-            return false;
-        }
-        return !says_text(of_array, b);
+        return a.content == b.content && !says_text(of_array, b);
     }
-    if !says_text(of_array, b) {
-        return false;
-    }
-    same_bytes(
-        text_of(source, a.content, a.size),
-        text_of(other, b.content, b.size),
-    )
+    says_text(of_array, b) && same_bytes(a.text(source), b.text(other))
 }
 
-// The last node before an end that the table has room for, or 0.
+// The last node before an end that the table has room for, or 0: no pair begins before node 0, so no Option is asked for.
 fn last_node(table: &[u64], end: usize) -> usize
     ensures { result ≡ min end (capacity_of table.now) - 1 }
 {
-    let mut behind = table.len() / WIDTH;
-    if end < behind {
-        behind = end;
-    }
-    if behind == 0 {
-        return 0;
-    }
-    behind - 1
+    end.min(table.len() / WIDTH).saturating_sub(1)
 }
 
 // Whether a key equals one of those of the pairs that stand in the table from node `first` up to node `end`. The key may stand in another source than these.

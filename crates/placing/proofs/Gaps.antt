@@ -118,6 +118,9 @@ module _ (v : Value) (valid : Valid v) (node : ℕ) (site : Site) (way : WayTo v
   pub one_more : count qs + 1 ≤ number_limit
   one_more = omega (arith, count_most qs, site-inside v node site way, write_longer v [], valid.short)
 
+  pub no_brace : (r : List ℕ) → from-head ≡ byte "}" ∷ r → ⊥
+  no_brace r i = let z : ◌≡◌ {A = ℕ} 97 125 = cc in omega (arith, z)
+
   module _ (s : List ℕ) (p : s ≡ print v) where
     abbrev pub ahead : Ahead s 0 node
     ahead = record {
@@ -131,9 +134,6 @@ module _ (v : Value) (valid : Valid v) (node : ℕ) (site : Site) (way : WayTo v
       stops = λ r i. absurd (no_brace r i);
       inside = omega arith;
     }
-      where
-        no_brace : (r : List ℕ) → from-head ≡ byte "}" ∷ r → ⊥
-        no_brace r i = let z : ◌≡◌ {A = ℕ} 97 125 = cc in omega (arith, z)
 
     module _ (x : Passed) (r : Reached s from-head (length site.path) x) (gap : ℕ) (g : gap ≡ node + 1 + nodes_in (upto place qs)) where
       abbrev head-ahead : HeadAhead s x.at

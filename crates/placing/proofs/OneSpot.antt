@@ -1,5 +1,5 @@
 -- One spot and no other: a wrong ordinal that leads to the same bytes does not meet the promise. Assumes nothing.
-use Prim.Native.Nat.{ℕ}
+use Rattle.std.proofs.Common.{ℕ, Ok}
 use native.Mathlib.Omega.{arith}
 use mathlib.Core.Path.{◌≡◌, refl, ap, ◌∙◌}
 use Rattle.decimal.specs.Digits.{decimal, decimal_in}
@@ -15,7 +15,6 @@ use Rattle.tokens.specs.Between.{tokens_between}
 use Rattle.rewriting.specs.declared.splice.Splice.{Splice}
 use Rattle.rewriting.specs.Rewriting.{raising}
 use Rattle.rewriting.specs.Edited.{spliced_text}
-use Rattle.placing.specs.declared.Placing.{Placing}
 use Rattle.placing.specs.Locating.{placing_answer, spot_for}
 
 abbrev spot : (ordinal : ℕ) → Splice
@@ -34,5 +33,5 @@ pub same_bytes : spliced_text (bytes "a:0:{}") (bytes "i:0;") (bytes "N;") (spot
 unfolding tokens_between read_token token_behind
 same_bytes = refl
 
-pub no_other : (p : Splice) → placing_answer (Placing.At p) ≡ spot_for three_nodes (bytes "a:0:{}") 0 0 (bytes "i:0;") (bytes "N;") → p.renumbering.from ≡ 999 → ⊥
+pub no_other : (p : Splice) → placing_answer (Ok p) ≡ spot_for three_nodes (bytes "a:0:{}") 0 0 (bytes "i:0;") (bytes "N;") → p.renumbering.from ≡ 999 → ⊥
 no_other p e f = omega (arith, f, ap (λ (q : Splice). q.renumbering.from) (ok_same (e ∙ empty-array)))

@@ -4,19 +4,17 @@ use native.Mathlib.Nat.{add-zero}
 use native.Mathlib.Omega.{arith}
 use mathlib.Core.Path.{◌≡◌, refl, sym, ap, ◌∙◌}
 use mathlib.Core.Bool.{true, false, true≢false}
-use mathlib.Core.Logic.{◌⊎◌, inl, inr, ⊎_elim}
+use Rattle.std.specs.Prelude.{Err}
 use mathlib.Core.List.{List, [], ◌∷◌}
 use lib.Dec.{eqb}
 use lib.ListN.{length, get_or, drop, length-drop}
 use lib.Seq.{get_or-drop}
-use borrow.Author.Tests.{eqb-true, lt-ltb, le-ltb, eq-eqb, ne_eqb}
+use borrow.Author.Tests.{eqb-true, lt-ltb, le-ltb, eq-eqb}
 use Rattle.decimal.proofs.Decide.{Order, below, above, order}
-use Rattle.format.specs.Bytes.{byte}
-use Rattle.format.specs.Kind.{Kind, tag}
+use Rattle.format.specs.declared.codes.Code.{Code}
 use Rattle.bytes_at.specs.ByteAt.{byte_at}
 use Rattle.scanner.specs.declared.Text.{Text}
-use Rattle.scanner.specs.declared.Scan.{Scan}
-use Rattle.scanner.specs.Scans.{Found, Scans}
+use Rattle.scanner.specs.Scans.{Scan, Found, Scans}
 use Rattle.scanner.proofs.Numbers.{unfit-of}
 use Rattle.tokens.specs.Tokens.{Token, scalar, reference, opening, closing, read_token, token_told, write_token, write_tokens, TokenFits, AllFit, opens_of, closes_of}
 use Rattle.tokens.specs.Tokens.{opens, closes, nodes_of, opened, closed}
@@ -26,20 +24,6 @@ use Rattle.tokens.proofs.Standing.{first_byte}
 use Rattle.tokens.proofs.Standing.{standing, never-unfit}
 use Rattle.placing.specs.declared.pass.Passed.{Passed}
 use Rattle.placing.specs.Passing.{goes_on, Ahead, Reached}
-
--- ---- a token's first byte
-
-pub opens_one : (b : ℕ) → (b ≡ tag Kind.object) ⊎ (b ≡ tag Kind.array) → 1 ≡ opens_of b
-opens_one b o = ⊎_elim (λ e. rw e) (λ e. rw e) o
-
-pub opens-none : (b : ℕ) → ((b ≡ tag Kind.object) ⊎ (b ≡ tag Kind.array) → ⊥) → 0 ≡ opens_of b
-opens-none b n = rw (ne_eqb b 97 (λ e. n (inr e)), ne_eqb b 79 (λ e. n (inl e)))
-
-pub closes-one : (b : ℕ) → b ≡ byte "}" → 1 ≡ closes_of b
-closes-one b e = rw e
-
-pub closes-none : (b : ℕ) → (b ≡ byte "}" → ⊥) → 0 ≡ closes_of b
-closes-none b n = rw (ne_eqb b 125 n)
 
 -- ---- the test
 
@@ -154,8 +138,8 @@ module _ {s : List ℕ} {from nodes at passed o c : ℕ} (p : Passing s from nod
     pub at-token : Ahead s from nodes → at < length s
     at-token a = omega (arith, ap length (next a).text, length-drop at s, token_longer (next a).token (write_tokens (next a).more a.rest))
 
-    pub fit-token : Ahead s from nodes → (scan : Scan) (n : ℕ) → Scans read_token (token_told at) s at scan → scan ≡ Scan.Not n → ⊥
-    fit-token a scan n g f = let u = next a in never-unfit s at u.token (write_tokens u.more a.rest) n u.fit u.text (unfit-of g f)
+    pub fit-token : Ahead s from nodes → (scan : Scan) (n : Code) → Scans read_token (token_told at) s at scan → scan ≡ Err n → ⊥
+    fit-token a scan n g f = let u = next a in never-unfit s at u.token (write_tokens u.more a.rest) _ u.fit u.text (unfit-of g f)
 
     module _ (x : Text) (f : Found read_token (token_told at) s at x) (shut up : ℕ) (sh : shut ≡ closes_of (get_or s at 0)) (op : up ≡ opens_of (get_or s at 0))
         (sh-low : shut ≤ 1) (op-low : up ≤ 1) where

@@ -1,9 +1,12 @@
 -- Texts that are exactly one scalar or one key. Assumes nothing.
 use Prim.Native.Nat.{ℕ, ◌≤◌, ◌<◌}
 use native.Mathlib.Omega.{arith}
-use mathlib.Core.Path.{◌≡◌, refl, sym, ap, ◌∙◌}
-use mathlib.Core.Bool.{true, false, true≢false}
+use mathlib.Core.Path.{◌≡◌, refl, sym, ap, ◌∙◌, subst}
+use mathlib.Core.Bool.{true, true≢false}
 use mathlib.Core.List.{List, [], ◌∷◌}
+use Rattle.std.specs.Prelude.{Ok, Err, Option, Some, None}
+use Rattle.std.specs.Result.{result_ok}
+use Rattle.format.specs.declared.codes.Code.{Code}
 use lib.ListN.{length, get_or, drop, length-drop, drop_of_length-le}
 use lib.Seq.{drop-cons}
 use Rattle.format.specs.Kind.{may_be_key}
@@ -15,8 +18,7 @@ use Rattle.format.proofs.Answers.{ok_same, not_both, bind_ok}
 use Rattle.format.proofs.Fronts.{number-length, quoted_length}
 use Rattle.format.proofs.Places.{quoted_text_lem}
 use Rattle.scanner.specs.declared.Text.{Text}
-use Rattle.scanner.specs.declared.Scan.{Scan}
-use Rattle.scanner.specs.Scans.{scalar_behind, scalar_told, Found, Scans}
+use Rattle.scanner.specs.Scans.{Scan, scalar_behind, scalar_told, Found, Scans}
 use Rattle.scanner.proofs.Numbers.{found_of, unfit-of}
 use Rattle.scanner.proofs.Printed.{scalar-tagged, scalar-printed}
 use Rattle.keys.specs.KeyWords.{Held}
@@ -28,18 +30,16 @@ use Rattle.placing.specs.PairTexts.{IsScalar, Exact, text_words, IsKey, ExactKey
 
 -- ---- exactly one
 
+pub told_ok : (r : Scan) (x : Text) → result_ok r ≡ Some x → r ≡ Ok x
+told_ok (Ok y) x e = cc
+told_ok (Err c) x e = cc
+
+untold : (r : Scan) → result_ok r ≡ None → (c : Code) × (r ≡ Err c)
+untold (Ok y) e = cc
+untold (Err c) e = (c, refl)
+
 module _ (s : List ℕ) where
-  pub none-empty : length s ≡ 0 → Exact s (Scan.Not 13)
-  none-empty e y f t = omega (arith, e, ap length (t ∙ scalar-tagged y []))
-
-  module _ (n : length s ≡ 0 → ⊥) where
-    pub some : 0 < length s
-    some = go s n
-      where
-        go : (l : List ℕ) → (length l ≡ 0 → ⊥) → 0 < length l
-        go [] n = absurd (n refl)
-        go (b ∷ l) n = omega arith
-
+  module _ (some : 0 < length s) where
     whole : s ≡ get_or s 0 0 ∷ drop 1 s
     whole = drop-cons s 0 0 some
 
@@ -49,15 +49,18 @@ module _ (s : List ℕ) where
           ap (λ (u : List ℕ). scalar_behind (get_or u 0 0) l (drop 1 u)) (t ∙ scalar-tagged y [])
           ∙ scalar-printed l y [] f
 
-    module _ {r : Scan} (g : Scans (scalar_behind (get_or s 0 0)) (scalar_told 1) s 1 r) where
-      pub none-unfit : {c : ℕ} → r ≡ Scan.Not c → Exact s (Scan.Not c)
-      none-unfit e y f t = not_both (sym (unfit-of g e 0) ∙ printed y f t 0)
+    module _ {b : ℕ} {r : Scan} (first : b ≡ get_or s 0 0) (told : Scans (scalar_behind b) (scalar_told 1) s 1 r) where
+      g : Scans (scalar_behind (get_or s 0 0)) (scalar_told 1) s 1 r
+      g = subst (λ (b : ℕ). Scans (scalar_behind b) (scalar_told 1) s 1 r) first told
 
-      module _ {x : Text} (e : r ≡ Scan.Is x) where
+      pub none-unfit : result_ok r ≡ None → Exact s None
+      none-unfit e y f t = not_both (sym (unfit-of g (untold r e).1 0) ∙ printed y f t 0)
+
+      module _ {x : Text} (e : r ≡ Ok x) where
         found : Found (scalar_behind (get_or s 0 0)) (scalar_told 1) s 1 x
         found = found_of g e
 
-        pub none_longer : x.next < length s → Exact s (Scan.Not 13)
+        pub none_longer : x.next < length s → Exact s None
         none_longer h y f t =
             let rest : drop x.next s ≡ [] = ap (λ (p : Scalar × List ℕ). p.1) (ok_same (sym (found.is 0) ∙ printed y f t 0)) in
             omega (arith, ap length rest, length-drop x.next s)
@@ -79,15 +82,9 @@ key-scalar (int_key x) s f t = (f, t)
 key-scalar (string_key q) s f t = (f, t)
 
 module _ (s : List ℕ) where
-  pub no-key-empty : length s ≡ 0 → ExactKey s (Scan.Not 13)
-  no-key-empty e k f t = let q = key-scalar k s f t in none-empty s e (key_scalar k) q.0 q.1
-
   key-tag : (k : Key) → s ≡ write_key k [] → may_be_key (get_or s 0 0) ≡ true
   key-tag (int_key x) t = ap (λ (u : List ℕ). may_be_key (get_or u 0 0)) t
   key-tag (string_key q) t = ap (λ (u : List ℕ). may_be_key (get_or u 0 0)) t
-
-  pub no-key-tag : may_be_key (get_or s 0 0) ≡ false → ExactKey s (Scan.Not 13)
-  no-key-tag e k f t = true≢false (sym (key-tag k t) ∙ e)
 
   abbrev content : Text → ℕ
   content u = u.content
@@ -114,9 +111,9 @@ module _ (s : List ℕ) where
     words = same-words x (string_key q) t (ap content e ∙ omega arith) (ap size e);
   }
 
-  pub exact_key : (r : Scan) → may_be_key (get_or s 0 0) ≡ true → Exact s r → ExactKey s r
-  exact_key (Scan.Is x) m g = is_key x g.scalar m g.written g.fits g.tells
-  exact_key (Scan.Not c) m g = λ k f t. let q = key-scalar k s f t in g (key_scalar k) q.0 q.1
+  pub exact_key : (r : Option Text) → may_be_key (get_or s 0 0) ≡ true → Exact s r → ExactKey s r
+  exact_key (Some x) m g = is_key x g.scalar m g.written g.fits g.tells
+  exact_key None m g = λ k f t. let q = key-scalar k s f t in g (key_scalar k) q.0 q.1
 
 pub key-some : (s : List ℕ) {w : KeyWords} → IsKey s w → 0 < length s
 key-some s g = go g.key g.written

@@ -1,26 +1,18 @@
 -- Laws of the words that inserting takes from the table. Assumes nothing.
-use Prim.Native.Nat.{ℕ, ◌+◌, ◌-◌, ◌*◌, ◌≤◌, ◌<◌}
-use native.Mathlib.Nat.{add-zero}
-use native.Mathlib.Numerals.{add-one}
-use native.Mathlib.Omega.{arith}
-use mathlib.Core.Path.{◌≡◌, refl, sym, ap, ap₂, ◌∙◌}
-use mathlib.Core.Bool.{Bool, true, false, not, ◌&&◌, true≢false}
+use Prim.Native.Nat.{ℕ, ◌+◌, ◌-◌, ◌≤◌, ◌<◌}
+use mathlib.Core.Path.{◌≡◌, refl, sym, ap, ◌∙◌}
+use mathlib.Core.Bool.{Bool, true, false, ◌&&◌, true≢false}
 use mathlib.Core.List.{List}
 use lib.Dec.{eqb, ltb, leb, ltb→lt, eqb→eq}
-use lib.ListN.{get_or}
-use borrow.Author.Tests.{eq-eqb, ne_eqb, lt-ltb, le-ltb, le-leb, lt-leb, leb-true, leb-false}
+use borrow.Author.Tests.{eq-eqb, lt-ltb, leb-true, leb-false}
 use Rattle.decimal.proofs.Decide.{T_of, and_left, and_right}
 use Rattle.format.specs.Kind.{Kind, tag}
 use Rattle.format.specs.Answer.{ok, refused, require}
-use Rattle.format.specs.Tree.{one}
-use Rattle.format.specs.Table.{width, word_at, tag_word, ordinal_word, link_word, pair_end}
+use Rattle.format.specs.Table.{word_at, tag_word, ordinal_word, link_word}
 use Rattle.format.proofs.Answers.{not_both, test-passed, test-failed}
-use Rattle.placing.specs.declared.steps.Check.{Check}
-use Rattle.placing.specs.Checks.{check_answer}
-use Rattle.placing.specs.Words.{ArrayWords, array_words, pair_node, carriers, GapWords, gap_words}
-
-pub word_first : (t : List ℕ) (i : ℕ) → get_or t (i * width) 0 ≡ word_at t i tag_word
-word_first t i = ap (λ (n : ℕ). get_or t n 0) (sym (add-zero (i * width)))
+use Rattle.placing.specs.declared.target.ArrayWords.{ArrayWords}
+use Rattle.placing.specs.declared.target.GapWords.{GapWords}
+use Rattle.placing.specs.Words.{array_words, pair_node, carriers, gap_words}
 
 -- ---- the array at a node
 
@@ -36,19 +28,6 @@ module _ (t : List ℕ) (n i : ℕ) where
 
   abbrev here : ArrayWords
   here = record { count = word_at t i link_word; ordinal = word_at t i ordinal_word }
-
-  pub array-outside : n ≤ i → refused 11 0 ≡ array_words t n i
-  unfolding array_words
-  array-outside h = sym (rw (le-ltb i n h))
-
-  module _ (h : i < n) where
-    pub array-other : (word_at t i tag_word ≡ tag Kind.array → ⊥) → refused 11 0 ≡ array_words t n i
-    unfolding array_words
-    array-other f = sym (rw (lt-ltb i n h, ne_eqb (word_at t i tag_word) (tag Kind.array) f))
-
-    pub array-there : word_at t i tag_word ≡ tag Kind.array → ok (record { count = word_at t i link_word; ordinal = word_at t i ordinal_word }) ≡ array_words t n i
-    unfolding array_words
-    array-there e = sym (rw (lt-ltb i n h, eq-eqb (word_at t i tag_word) (tag Kind.array) e))
 
   pub array-is : {c o : ℕ} → ok (record { count = c; ordinal = o }) ≡ array_words t n i → ArrayIs t n i c o
   unfolding array_words
@@ -79,16 +58,6 @@ module _ (t : List ℕ) (i n o p : ℕ) where
   abbrev gap : GapWords
   gap = record { node = pair_node t (i + 1) p; ordinal = o + carriers t (i + 1) (pair_node t (i + 1) p - (i + 1)) + 1 }
 
-  pub gap-beyond : n < p → refused 12 0 ≡ gap_words t i n o p
-  unfolding gap_words
-  gap-beyond h = sym (rw (lt-leb p n h))
-
-  pub gap-before : p ≤ n → (m taken : ℕ) → m ≡ pair_node t (i + 1) p → taken ≡ carriers t (i + 1) (m - (i + 1))
-      → ok (record { node = m; ordinal = o + taken + 1 }) ≡ gap_words t i n o p
-  unfolding gap_words
-  gap-before h m taken e f =
-      ap₂ (λ (a b : ℕ). ok (record { node = a; ordinal = o + b + 1 })) e (f ∙ ap (λ (a : ℕ). carriers t (i + 1) (a - (i + 1))) e) ∙ sym (rw (le-leb p n h))
-
   pub gap_is : {m new : ℕ} → ok (record { node = m; ordinal = new }) ≡ gap_words t i n o p → BeforeIs t i n o p m new
   unfolding gap_words
   gap_is {m} {new} e =
@@ -101,32 +70,11 @@ module _ (t : List ℕ) (i n o p : ℕ) where
 
 -- ---- checks
 
-pub check_is : {b c : Bool} (n : ℕ) → b ≡ c → require c n 0 ≡ require b n 0
-check_is n e = ap (λ (t : Bool). require t n 0) (sym e)
-
 -- a check that passed, and one that did not
-pub check_passed : (r : Check) (b : Bool) (n p : ℕ) → check_answer r ≡ require b n p → r ≡ Check.Passed → b ≡ true
-check_passed r true n p e f = refl
-check_passed r false n p e f = absurd (not_both (sym e ∙ ap check_answer f))
+pub check_passed : {u : Unit {0}} (b : Bool) (n p : ℕ) → ok u ≡ require b n p → b ≡ true
+check_passed true n p e = refl
+check_passed false n p e = absurd (not_both (sym e))
 
-pub check_failed : (r : Check) (b : Bool) (n p : ℕ) → check_answer r ≡ require b n p → (r ≡ Check.Passed → ⊥) → b ≡ false
-check_failed r false n p e f = refl
-check_failed Check.Passed true n p e f = absurd (f refl)
-check_failed Check.KeyPresent true n p e f = absurd (not_both e)
-check_failed Check.TooDeep true n p e f = absurd (not_both e)
-check_failed Check.TableFull true n p e f = absurd (not_both e)
-
--- ---- pairs walked
-
-module _ (t : List ℕ) (i : ℕ) where
-  pub pair-next : (q node : ℕ) → node ≡ pair_node t i q → get_or t (node * width + pair_end) 0 ≡ pair_node t i (q + 1)
-  pair-next q node e = ap (λ (n : ℕ). get_or t (n * width + pair_end) 0) e ∙ ap (pair_node t i) (sym (add-one q))
-
-  carried-next : (n m : ℕ) (b : Bool) → eqb (word_at t (i + n) ordinal_word) 0 ≡ b → m ≡ carriers t i n + one (not b) → m ≡ carriers t i (n + 1)
-  carried-next n m b e f = f ∙ ap (λ (c : Bool). carriers t i n + one (not c)) (sym e) ∙ ap (carriers t i) (sym (add-one n))
-
-  pub carries : (n taken : ℕ) → taken ≡ carriers t i n → (word_at t (i + n) ordinal_word ≡ 0 → ⊥) → taken + 1 ≡ carriers t i (n + 1)
-  carries n taken e h = carried-next n (taken + 1) _ (ne_eqb (word_at t (i + n) ordinal_word) 0 h) (omega (arith, e))
-
-  pub carries-none : (n taken : ℕ) → taken ≡ carriers t i n → word_at t (i + n) ordinal_word ≡ 0 → taken ≡ carriers t i (n + 1)
-  carries-none n taken e h = carried-next n taken _ (eq-eqb (word_at t (i + n) ordinal_word) 0 h) (omega (arith, e))
+pub check_failed : {c q : ℕ} (b : Bool) (n p : ℕ) → refused c q ≡ require b n p → b ≡ false
+check_failed true n p e = absurd (not_both e)
+check_failed false n p e = refl

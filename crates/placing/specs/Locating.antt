@@ -1,21 +1,22 @@
 -- WHAT PLACING PROMISES. The other files here say what its private functions promise each other; nothing public rests on them.
-use Rattle.std.specs.Prelude.{◌≡◌, List, [], ◌∷◌, ℕ, zero, suc, ◌+◌, length}
+use Rattle.std.specs.Prelude.{◌≡◌, List, [], ◌∷◌, ℕ, zero, suc, ◌+◌, length, Result, Ok, Err}
 use Rattle.format.specs.Tree.{leaf, ref, branch, none, pair, TreePath, count}
 use Rattle.format.specs.Syntax.{Value, Values, write_key, write, write_pairs}
 use Rattle.format.specs.Limits.{Terms}
 use Rattle.format.specs.Answer.{Answer, ok, refused, ◌>>=◌}
+use Rattle.format.specs.declared.codes.Refusal.{Refusal}
+use Rattle.format.specs.Codes.{number_of}
 use Rattle.format.specs.Reading.{terms_of, cleared, table_after}
 use Rattle.format.specs.Edit.{upto, new_ordinal}
 use Rattle.format.specs.Writing.{Insertion, insertion_of}
 use Rattle.tokens.specs.Tokens.{opening, write_token}
 use Rattle.rewriting.specs.declared.splice.Splice.{Splice}
 use Rattle.rewriting.specs.Rewriting.{raising}
-use Rattle.placing.specs.declared.Placing.{Placing}
 
--- the paper's number and values for each case of the enum: where the pair goes; "A refusal returns its number and a position"
-abbrev pub placing_answer : Placing → Answer Splice
-placing_answer (Placing.At p) = ok p
-placing_answer (Placing.Refused code at) = refused code at
+-- the paper's number and values for each case: where the pair goes; "A refusal returns its number and a position"
+abbrev pub placing_answer : Result Splice Refusal → Answer Splice
+placing_answer (Ok p) = ok p
+placing_answer (Err r) = refused (number_of r.code) r.at
 
 -- ---- what stands before: the bytes of a plan up to a point of the container at a path, those of that container being given by `part`
 
@@ -66,6 +67,6 @@ abbrev pub table_located : Terms → Answer Splice → (source table : List ℕ)
 table_located terms (ok p) source t = table_after terms source t
 table_located terms (refused n p) source t = cleared t
 
-pub record Locates (s : List ℕ) (node place : ℕ) (key value t t' : List ℕ) (r : Placing) : Type 0 where
+pub record Locates (s : List ℕ) (node place : ℕ) (key value t t' : List ℕ) (r : Result Splice Refusal) : Type 0 where
   pub answer : placing_answer r ≡ spot_for (terms_of t) s node place key value
   pub table : t' ≡ table_located (terms_of t) (spot_for (terms_of t) s node place key value) s t

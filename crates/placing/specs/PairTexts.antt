@@ -1,15 +1,13 @@
 -- The texts of the new pair.
-use Rattle.std.specs.Prelude.{◌≡◌, List, [], ℕ, get_or}
+use Rattle.std.specs.Prelude.{◌≡◌, List, [], ℕ, get_or, Option, Some, None}
 use Rattle.format.specs.Syntax.{Key, Scalar, write_key, write_scalar}
 use Rattle.format.specs.Fits.{KeyFits, ScalarFits}
 use Rattle.format.specs.Answer.{Answer, ok, refused, ◌>>=◌}
 use Rattle.format.specs.Table.{key_node}
 use Rattle.format.specs.Writing.{key_of, scalar_of}
-use Rattle.scanner.specs.Scans.{scan_answer, scalar_told}
+use Rattle.scanner.specs.Scans.{scalar_told}
 use Rattle.scanner.specs.declared.Text.{Text}
-use Rattle.scanner.specs.declared.Scan.{Scan}
 use Rattle.keys.specs.declared.KeyWords.{KeyWords}
-use Rattle.placing.specs.declared.texts.Texts.{Texts}
 
 -- exactly one scalar, and what it tells
 pub record IsScalar (s : List ℕ) (x : Text) : Type 0 where
@@ -18,12 +16,9 @@ pub record IsScalar (s : List ℕ) (x : Text) : Type 0 where
   pub fits : ScalarFits scalar
   pub tells : x ≡ scalar_told 1 scalar x.next
 
-abbrev pub ExactText : List ℕ → Answer Text → Type 0
-ExactText s (ok x) = IsScalar s x
-ExactText s (refused c at) = (y : Scalar) → ScalarFits y → s ≡ write_scalar y [] → ⊥
-
-abbrev pub Exact : List ℕ → Scan → Type 0
-Exact s r = ExactText s (scan_answer 0 r)
+abbrev pub Exact : List ℕ → Option Text → Type 0
+Exact s (Some x) = IsScalar s x
+Exact s None = (y : Scalar) → ScalarFits y → s ≡ write_scalar y [] → ⊥
 
 -- words 0, 2 and 3 of the node that a key has whose tag stands at 0
 abbrev pub text_words : Key → KeyWords
@@ -36,19 +31,16 @@ pub record IsKey (s : List ℕ) (w : KeyWords) : Type 0 where
   pub fits : KeyFits key
   pub words : w ≡ text_words key
 
-abbrev pub ExactKeyText : List ℕ → Answer Text → Type 0
-ExactKeyText s (ok x) = IsKey s (record { tag = get_or s 0 0; content = x.content; size = x.size })
-ExactKeyText s (refused c at) = (k : Key) → KeyFits k → s ≡ write_key k [] → ⊥
-
-abbrev pub ExactKey : List ℕ → Scan → Type 0
-ExactKey s r = ExactKeyText s (scan_answer 0 r)
+abbrev pub ExactKey : List ℕ → Option Text → Type 0
+ExactKey s (Some x) = IsKey s (record { tag = get_or s 0 0; content = x.content; size = x.size })
+ExactKey s None = (k : Key) → KeyFits k → s ≡ write_key k [] → ⊥
 
 -- ---- 13
 
--- the paper's number and values for each case of the enum: "key or value text unfit"
-abbrev pub texts_answer : Texts → Answer KeyWords
-texts_answer (Texts.Fit w) = ok w
-texts_answer Texts.Unfit = refused 13 0
+-- the paper's number and values for each case: "key or value text unfit"
+abbrev pub texts_answer : Option KeyWords → Answer KeyWords
+texts_answer (Some w) = ok w
+texts_answer None = refused 13 0
 
 -- both texts judged in one step: the words of the key
 unfoldable pub pair_words : (key value : List ℕ) → Answer KeyWords

@@ -1,5 +1,5 @@
 -- A pair's place in the bytes of a plan that was read.
-use Rattle.std.specs.Prelude.{◌≡◌, List, ◌∷◌, ◌++◌, ℕ, ◌≤◌, length, drop}
+use Rattle.std.specs.Prelude.{◌≡◌, List, ◌∷◌, ◌++◌, ℕ, ◌≤◌, length, drop, Result}
 use Rattle.format.specs.Bytes.{byte}
 use Rattle.format.specs.Kind.{Kind, tag}
 use Rattle.format.specs.Tree.{nodes}
@@ -10,7 +10,7 @@ use Rattle.format.specs.Table.{flat, table_of}
 use Rattle.format.specs.Reading.{terms_of}
 use Rattle.rewriting.specs.declared.splice.Splice.{Splice}
 use Rattle.rewriting.specs.Rewriting.{raising}
-use Rattle.placing.specs.declared.Placing.{Placing}
+use Rattle.format.specs.declared.codes.Refusal.{Refusal}
 use Rattle.placing.specs.Passing.{Ahead}
 use Rattle.placing.specs.Locating.{placing_answer, spot_for}
 
@@ -54,5 +54,5 @@ pub record SpotIs (s head rest : List ℕ) (at count ordinal : ℕ) (r : Splice)
 
 -- ---- the steps between reading and writing
 
-abbrev pub FindsSpot : (s t : List ℕ) (node place : ℕ) (key value : List ℕ) → Placing → Type 0
+abbrev pub FindsSpot : (s t : List ℕ) (node place : ℕ) (key value : List ℕ) → Result Splice Refusal → Type 0
 FindsSpot s t node place key value r = placing_answer r ≡ spot_for (terms_of t) s node place key value

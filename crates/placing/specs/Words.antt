@@ -1,5 +1,5 @@
 -- What inserting takes from the table of the plan that was read, by its words.
-use Rattle.std.specs.Prelude.{List, Bool, true, not, ◌&&◌, ℕ, zero, suc, ◌+◌, ◌-◌, ◌*◌, ◌≤◌, ◌<◌, eqb, ltb, leb, length}
+use Rattle.std.specs.Prelude.{List, Bool, true, not, ◌&&◌, ℕ, zero, suc, ◌+◌, ◌-◌, ◌*◌, ◌≤◌, ◌<◌, eqb, ltb, leb, length, Option, Some, None}
 use Rattle.format.specs.Kind.{Kind, tag}
 use Rattle.format.specs.Tree.{one}
 use Rattle.format.specs.Answer.{Answer, ok, refused, ◌>>=◌, require}
@@ -7,20 +7,15 @@ use Rattle.format.specs.Keys.{has_key}
 use Rattle.format.specs.Table.{width, word_at, tag_word, ordinal_word, link_word, end_word, pair_end}
 use Rattle.keys.specs.KeyWords.{key_said, keys_said}
 use Rattle.keys.specs.declared.KeyWords.{KeyWords}
-use Rattle.placing.specs.declared.target.Target.{Target}
-use Rattle.placing.specs.declared.target.Gap.{Gap}
+use Rattle.placing.specs.declared.target.ArrayWords.{ArrayWords}
+use Rattle.placing.specs.declared.target.GapWords.{GapWords}
 
 -- ---- 11
 
--- an array's count of pairs, and its ordinal
-pub record ArrayWords : Type 0 where
-  pub count : ℕ
-  pub ordinal : ℕ
-
--- the paper's number and values for each case of the enum: "index names no `a` node"
-abbrev pub target_answer : Target → Answer ArrayWords
-target_answer (Target.Array count ordinal) = ok (record { count = count; ordinal = ordinal })
-target_answer Target.Other = refused 11 0
+-- the paper's number and values for each case: "index names no `a` node"
+abbrev pub target_answer : Option ArrayWords → Answer ArrayWords
+target_answer (Some a) = ok a
+target_answer None = refused 11 0
 
 -- the array at a node of so many
 unfoldable pub array_words : List ℕ → (nodes node : ℕ) → Answer ArrayWords
@@ -54,15 +49,10 @@ pub record GapBounds (t : List ℕ) (node count ordinal place : ℕ) : Type 0 wh
   pub low : ordinal ≤ node + 1
   pub inside : node < length t
 
--- the node of the key before which the new pair goes, or the one behind the array, and the ordinal that the new value takes
-pub record GapWords : Type 0 where
-  pub node : ℕ
-  pub ordinal : ℕ
-
--- the paper's number and values for each case of the enum: "place above the array's count"
-abbrev pub gap_answer : Gap → Answer GapWords
-gap_answer (Gap.Before node ordinal) = ok (record { node = node; ordinal = ordinal })
-gap_answer Gap.Beyond = refused 12 0
+-- the paper's number and values for each case: "place above the array's count"
+abbrev pub gap_answer : Option GapWords → Answer GapWords
+gap_answer (Some g) = ok g
+gap_answer None = refused 12 0
 
 -- the gap at a place of the array at a node, whose count and ordinal are known
 unfoldable pub gap_words : List ℕ → (node count ordinal place : ℕ) → Answer GapWords

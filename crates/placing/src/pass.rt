@@ -7,7 +7,6 @@ ghost use Rattle.placing.specs.Passing.{goes_on, Ahead, Reached};
 
 use bytes_at::byte_is;
 use format::kind::Kind;
-use scanner::Scan;
 use tokens::token;
 
 // The index reached, and how many of the containers that were opened on the way are still open around it.
@@ -21,33 +20,21 @@ pub struct Passed {
 fn opens(first: u8) -> usize
     ensures { (result ≡ opens_of first) × (result ≤ 1) }
 {
-    match first {
-        Kind::ARRAY | Kind::OBJECT => 1,
-        _ => 0,
-    }
+    usize::from(matches!(first, Kind::ARRAY | Kind::OBJECT))
 }
 
 // How many it closes.
 fn closes(first: u8) -> usize
     ensures { (result ≡ closes_of first) × (result ≤ 1) }
 {
-    match first {
-        b'}' => 1,
-        _ => 0,
-    }
+    usize::from(first == b'}')
 }
 
 // Whether a node is left to pass, or the closing brace of a container that was opened on the way.
 fn goes_on(source: &[u8], at: usize, left: usize, opened: usize, closed: usize) -> bool
     ensures { result ≡ goes_on (byte_at source.now at) left opened closed }
 {
-    if 0 < left {
-        return true;
-    }
-    if opened <= closed {
-        return false;
-    }
-    byte_is(source, at, b'}')
+    0 < left || (closed < opened && byte_is(source, at, b'}'))
 }
 
 // Passes so many nodes from an index on, and the closing braces behind them of containers that they opened.
@@ -59,9 +46,9 @@ pub(crate) fn pass(source: &[u8], from: usize, nodes: usize) -> Passed
     let mut passed = 0;
     let mut opened = 0;
     let mut closed = 0;
+    // No `for`: where a token ends is known once it is scanned.
     while goes_on(source, at, nodes - passed, opened, closed) {
-        let scan = token(source, at);
-        let Scan::Is(text) = scan else {
+        let Ok(text) = token(source, at) else {
             // No token of a plan that was read is unfit.
             return Passed { at, around: 0 };
         };

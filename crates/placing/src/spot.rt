@@ -1,15 +1,13 @@
 // Where a pair goes in the bytes of a plan that was read.
 ghost use Rattle.placing.specs.Placing.{Given, FindsSpot, HeadAhead, BehindHead, SpotAhead, SpotIs};
 
-use crate::Placing;
 use crate::pass::pass;
-use crate::steps::{Check, new_key, shallow, two_more};
-use crate::target::{Gap, Target, array_at, gap_at};
-use crate::texts::{Texts, pair_texts};
-use format::codes::{KEY_REPEATED, NO_ARRAY, NO_PLACE, PAIR_UNFIT, TABLE_FULL, TOO_DEEP};
+use crate::steps::{new_key, shallow, two_more};
+use crate::target::{array_at, gap_at};
+use crate::texts::pair_texts;
+use format::codes::{Code, Refusal};
 use format::table::WIDTH;
 use rewriting::splice::{Renumbering, Splice};
-use scanner::Scan;
 use tokens::token;
 
 // The index behind the array's head, whose tag stands at an index.
@@ -17,8 +15,7 @@ fn behind_head(source: &[u8], at: usize) -> usize
     requires { HeadAhead source.now at }
     ensures { (h : HeadAhead source.now at) → BehindHead source.now h.rest result }
 {
-    let scan = token(source, at);
-    let Scan::Is(text) = scan else {
+    let Ok(text) = token(source, at) else {
         // No token of a plan that was read is unfit.
         return at;
     };
@@ -48,7 +45,7 @@ fn spot_at(source: &[u8], at: usize, nodes: usize, count: u64, ordinal: u64) -> 
     }
 }
 
-// The steps between reading and writing, in the order 11, 12, 13, 9, 8, 7.
+// The steps between reading and writing, in the order 11, 12, 13, 9, 8, 7. Not by `?`: "each step's answer enum is taken apart by let .. else" is a fixed form.
 pub(crate) fn find_spot(
     source: &[u8],
     table: &[u64],
@@ -57,53 +54,35 @@ pub(crate) fn find_spot(
     pair_index: usize,
     key: &[u8],
     value: &[u8],
-) -> Placing
+) -> Result<Splice, Refusal>
     requires { Given source.now table.now nodes }
     ensures { FindsSpot source.now table.now array_node pair_index key.now value.now result }
 {
-    let target = array_at(table, nodes, array_node);
-    let Target::Array { count, ordinal } = target else {
-        return Placing::Refused {
-            code: NO_ARRAY,
-            at: 0,
-        };
+    let Some(array) = array_at(table, nodes, array_node) else {
+        return Err(Code::NoArray.at(0));
     };
-    let gap = gap_at(table, array_node, count, ordinal, pair_index);
-    let Gap::Before { node, ordinal: new } = gap else {
-        return Placing::Refused {
-            code: NO_PLACE,
-            at: 0,
-        };
+    let Some(gap) = gap_at(table, array_node, array, pair_index) else {
+        return Err(Code::NoPlace.at(0));
     };
-    let fit = pair_texts(key, value);
-    let Texts::Fit(words) = fit else {
-        return Placing::Refused {
-            code: PAIR_UNFIT,
-            at: 0,
-        };
+    let Some(words) = pair_texts(key, value) else {
+        return Err(Code::PairUnfit.at(0));
     };
-    let first = array_node + 1;
-    let fresh = new_key(source, table, array_node, key, words);
-    let Check::Passed = fresh else {
-        return Placing::Refused {
-            code: KEY_REPEATED,
-            at: 0,
-        };
+    let Ok(()) = new_key(source, table, array_node, key, words) else {
+        return Err(Code::KeyRepeated.at(0));
     };
     let reached = pass(source, 0, array_node);
-    let depth = shallow(reached.around);
-    let Check::Passed = depth else {
-        return Placing::Refused {
-            code: TOO_DEEP,
-            at: 0,
-        };
+    let Ok(()) = shallow(reached.around) else {
+        return Err(Code::TooDeep.at(0));
     };
-    let room = two_more(nodes, table.len() / WIDTH);
-    let Check::Passed = room else {
-        return Placing::Refused {
-            code: TABLE_FULL,
-            at: 0,
-        };
+    let Ok(()) = two_more(nodes, table.len() / WIDTH) else {
+        return Err(Code::TableFull.at(0));
     };
-    Placing::At(spot_at(source, reached.at, node - first, count + 1, new))
+    let first = array_node + 1;
+    Ok(spot_at(
+        source,
+        reached.at,
+        gap.node - first,
+        array.count + 1,
+        gap.ordinal,
+    ))
 }

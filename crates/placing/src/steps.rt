@@ -6,56 +6,46 @@ ghost use Rattle.format.specs.Table.{width};
 ghost use Rattle.placing.specs.Words.{key_present};
 ghost use Rattle.placing.specs.Checks.{check_answer};
 
+use format::codes::Code;
 use format::limits::DEPTH_LIMIT;
 use format::table::{END, WIDTH};
 use keys::{KeyWords, has_key};
 
-// What such a step answers: it passes, or one of 9, 8 and 7 holds.
-#[derive(Clone, Copy)]
-pub enum Check {
-    Passed,
-    KeyPresent,
-    TooDeep,
-    TableFull,
-}
-
 // 9, "new key present": no key of the array at a node is equal to the new one.
+#[tactic(auto, unfolding(crate::specs::Words::key_present))]
 pub(crate) fn new_key(
     source: &[u8],
     table: &[u64],
     array_node: usize,
     key: &[u8],
     words: KeyWords,
-) -> Check
+) -> Result<(), Code>
     requires { array_node * width + width ≤ length table.now }
     ensures { check_answer result ≡ require (not (key_present source.now key.now words table.now array_node)) 9 0 }
 {
     let end = table[array_node * WIDTH + END] as usize;
     if has_key(true, source, table, array_node + 1, end, key, words) {
-        return Check::KeyPresent;
+        return Err(Code::KeyRepeated);
     }
-    Check::Passed
+    Ok(())
 }
 
 // 8, "array at depth 64": so many containers stand around the array.
-pub(crate) fn shallow(around: usize) -> Check
+pub(crate) fn shallow(around: usize) -> Result<(), Code>
     ensures { check_answer result ≡ require (ltb (suc around) depth_limit) 8 0 }
 {
     if DEPTH_LIMIT - 1 <= around {
-        return Check::TooDeep;
+        return Err(Code::TooDeep);
     }
-    Check::Passed
+    Ok(())
 }
 
 // 7, "two more nodes": there is room for them.
-pub(crate) fn two_more(nodes: usize, capacity: usize) -> Check
+pub(crate) fn two_more(nodes: usize, capacity: usize) -> Result<(), Code>
     ensures { check_answer result ≡ require (leb (nodes + 2) capacity) 7 0 }
 {
-    if capacity < 2 {
-        return Check::TableFull;
+    if capacity < 2 || capacity - 2 < nodes {
+        return Err(Code::TableFull);
     }
-    if capacity - 2 < nodes {
-        return Check::TableFull;
-    }
-    Check::Passed
+    Ok(())
 }

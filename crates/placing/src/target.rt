@@ -5,37 +5,37 @@ ghost use Rattle.placing.specs.Words.{pair_node, carriers, target_answer, array_
 
 use format::table::{ARRAY_TAG, LINK, ORDINAL, PAIR_END, WIDTH};
 
-// What stands at a node: an array with its count of pairs and its ordinal, or something else.
+// An array's count of pairs, and its ordinal.
 #[derive(Clone, Copy)]
-pub enum Target {
-    Array { count: u64, ordinal: u64 },
-    Other,
+pub struct ArrayWords {
+    pub count: u64,
+    pub ordinal: u64,
 }
 
-// A place among an array's pairs: the node of the key before which the new pair goes, or the one behind the array, and the ordinal that the new value takes;
-// or a place above the count.
+// A gap among an array's pairs: the node of the key before which the new pair goes, or the one behind the array, and the ordinal that the new value takes.
 #[derive(Clone, Copy)]
-pub enum Gap {
-    Before { node: usize, ordinal: u64 },
-    Beyond,
+pub struct GapWords {
+    pub node: usize,
+    pub ordinal: u64,
 }
 
-// 11: "index names no `a` node".
-pub(crate) fn array_at(table: &[u64], nodes: usize, node: usize) -> Target
+// The array at a node; none is 11, "index names no `a` node".
+#[tactic(auto, unfolding(crate::specs::Words::array_words))]
+pub(crate) fn array_at(table: &[u64], nodes: usize, node: usize) -> Option<ArrayWords>
     requires { nodes * width ≤ length table.now }
     ensures { target_answer result ≡ array_words table.now nodes node }
 {
     if nodes <= node {
-        return Target::Other;
+        return None;
     }
     let k = node * WIDTH;
     if table[k] != ARRAY_TAG {
-        return Target::Other;
+        return None;
     }
-    Target::Array {
+    Some(ArrayWords {
         count: table[k + LINK],
         ordinal: table[k + ORDINAL],
-    }
+    })
 }
 
 // Of the pairs that stand from node `first` on, the node of the key at a place.
@@ -44,10 +44,8 @@ fn pair_node(table: &[u64], first: usize, place: usize) -> usize
     ensures { result ≡ pair_node table.now first place }
 {
     let mut node = first;
-    let mut q = 0;
-    while q < place {
+    for _ in 0..place {
         node = table[node * WIDTH + PAIR_END] as usize;
-        q += 1;
     }
     node
 }
@@ -58,29 +56,34 @@ fn carried(table: &[u64], first: usize, count: usize) -> usize
     ensures { (result ≡ carriers table.now first count) × (result ≤ count) }
 {
     let mut taken = 0;
-    let mut i = 0;
-    while i < count {
+    for i in 0..count {
         if table[(first + i) * WIDTH + ORDINAL] != 0 {
             taken += 1;
         }
-        i += 1;
     }
     taken
 }
 
-// 12: "place above the array's count". The new ordinal is the array's, and one, and one for each node between the array and the gap that carries one.
-pub(crate) fn gap_at(table: &[u64], node: usize, count: u64, ordinal: u64, place: usize) -> Gap
-    requires { GapBounds table.now node count ordinal place }
-    ensures { gap_answer result ≡ gap_words table.now node count ordinal place }
+// The gap at a place; none is 12, "place above the array's count". The new ordinal is the array's, and one, and one for each node between the array and the gap
+// that carries one.
+#[tactic(auto, unfolding(crate::specs::Words::gap_words))]
+pub(crate) fn gap_at(
+    table: &[u64],
+    node: usize,
+    array: ArrayWords,
+    place: usize,
+) -> Option<GapWords>
+    requires { GapBounds table.now node array.count array.ordinal place }
+    ensures { gap_answer result ≡ gap_words table.now node array.count array.ordinal place }
 {
-    if count < place as u64 {
-        return Gap::Beyond;
+    if array.count < place as u64 {
+        return None;
     }
     let first = node + 1;
     let behind = pair_node(table, first, place);
     let taken = carried(table, first, behind - first);
-    Gap::Before {
+    Some(GapWords {
         node: behind,
-        ordinal: ordinal + taken as u64 + 1,
-    }
+        ordinal: array.ordinal + taken as u64 + 1,
+    })
 }

@@ -7,17 +7,15 @@ use Rattle.format.specs.Kind.{has_ordinal}
 use Rattle.format.specs.Tree as tree
 use Rattle.format.specs.Tree.{branch, nodes_in, one}
 use Rattle.format.specs.Syntax.{array, object, Spelling, Container, Value, Values}
-use Rattle.format.specs.Answer.{Answer, ok, refused, ◌>>=◌, code_of}
+use Rattle.format.specs.Answer.{Answer, ok, refused, ◌>>=◌}
 use Rattle.format.specs.Read.{expect, head_text, is_array, Inner, read_pairs}
 use Rattle.format.specs.Table.{Node, words, width, end_word, flat, branch_node, pairs_offset, taken, table, table_in}
 use Rattle.format.proofs.Forms.{pairs-count}
 use Rattle.format.proofs.Texts.{head_ok}
 use Rattle.scanner.specs.declared.Text.{Text}
-use Rattle.scanner.specs.declared.Scan.{Scan}
 use Rattle.bytes_at.specs.ByteAt.{byte_at}
-use Rattle.scanner.specs.Scans.{scan_answer, Found, Scans, container_told, head_told}
+use Rattle.scanner.specs.Scans.{Found, container_told, head_told}
 use Rattle.bytes_at.proofs.BytesAt.{byte-there, expect_yes, expect-no}
-use Rattle.scanner.proofs.Numbers.{unfit-of}
 use Rattle.reader.specs.declared.cursor.Cursor.{Cursor}
 use Rattle.reader.specs.Texts.{is_array_tag, container_kinds, container_tag}
 use Rattle.reader.specs.Nodes.{node_of, NodeOpened}
@@ -26,7 +24,7 @@ use Rattle.reader.proofs.Tagged.{passes}
 use Rattle.reader.proofs.Bodies.{pairs_of, body-head, head-node}
 use Rattle.reader.proofs.HeadTexts.{head-written}
 use Rattle.reader.proofs.Stored.{node-around, run_kept, run_word, points_keep, points_kept, points_step}
-use Rattle.reader.proofs.Leaves.{room-there, gate_open, refused-by}
+use Rattle.reader.proofs.Leaves.{room-there, gate_open}
 
 -- the cursor at a container's first pair
 abbrev pub within : Cursor → (next : ℕ) → Cursor
@@ -57,9 +55,8 @@ module _ (s : List ℕ) (capacity : ℕ) (c : Cursor) (b : ℕ) (here : TagAt s 
       gate_open s capacity c b here container_kinds tt is room
       ∙ body-head (setting_at s capacity) inner c.at c.ordinal c.node b (drop (c.at + 1) s) is
 
-  pub head_not : (scan : Scan) (code n : ℕ) → Scans (head_text (is_array_tag b)) (head_told (c.at + 1)) s (c.at + 1) scan → scan ≡ Scan.Not code
-      → n ≡ code_of (scan_answer 0 scan) → given ≡ refused n c.at
-  head_not scan code n h e q = refused-by scan code n c.at given e q (opened ∙ rw (unfit-of h e c.at))
+  pub head_not : (code at : ℕ) → head_text (is_array_tag b) c.at (drop (c.at + 1) s) ≡ refused code at → given ≡ refused code at
+  head_not code at e = opened ∙ rw e
 
   module _ (x : Text) (f : Found (head_text (is_array_tag b)) (head_told (c.at + 1)) s (c.at + 1) x) where
     abbrev container : Container

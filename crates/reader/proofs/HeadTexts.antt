@@ -1,7 +1,6 @@
 -- The head of a container, as scanned. Assumes nothing.
-use Rattle.std.proofs.Common.{◌≡◌, ℕ, ◌+◌, ◌≤◌, Bool, true, false, List, [], ◌∷◌, length, drop, ap, ◌∙◌, arith, length-append, length-drop}
+use Rattle.std.proofs.Common.{◌≡◌, ℕ, ◌+◌, ◌≤◌, Bool, List, [], ◌∷◌, length, drop, ap, ◌∙◌, arith, length-append, length-drop}
 use Rattle.format.specs.Bytes.{byte}
-use Rattle.format.specs.Kind.{Kind, tag}
 use Rattle.format.specs.Syntax.{Spelling, Container, write_number, write_container}
 use Rattle.format.specs.Answer.{ok}
 use Rattle.format.specs.Read.{head_text}
@@ -9,21 +8,7 @@ use Rattle.format.specs.Table.{pairs_offset}
 use Rattle.format.proofs.Fronts.{number-front, container-front}
 use Rattle.format.proofs.Texts.{head_ok}
 use Rattle.scanner.specs.declared.Text.{Text}
-use Rattle.scanner.specs.declared.Scan.{Scan}
-use Rattle.scanner.specs.Scans.{Found, Scans, head_told}
-use Rattle.reader.specs.Texts.{is_array_tag}
-
--- ---- its tag
-
-pub head-array-is : (s : List ℕ) (at b : ℕ) (r : Scan) → b ≡ tag Kind.array → Scans (head_text true) (head_told at) s at r
-    → Scans (head_text (is_array_tag b)) (head_told at) s at r
-unfolding is_array_tag
-head-array-is s at b r e h = rw e h
-
-pub head-object-is : (s : List ℕ) (at b : ℕ) (r : Scan) → b ≡ tag Kind.object → Scans (head_text false) (head_told at) s at r
-    → Scans (head_text (is_array_tag b)) (head_told at) s at r
-unfolding is_array_tag
-head-object-is s at b r e h = rw e h
+use Rattle.scanner.specs.Scans.{Found, head_told}
 
 -- ---- its length
 

@@ -1,6 +1,6 @@
 -- Laws of keys and of the pairs that stand in the table. Assumes nothing.
 use Rattle.std.proofs.Common.{◌≡◌, ℕ, ◌+◌, ◌*◌, ◌<◌, ◌≤◌, Bool, true, false, eqb, List, [], ◌∷◌, ◌++◌, length, sym, refl, ap, ◌∙◌, subst, arith}
-use Rattle.std.proofs.Common.{ltb-true, le-ltb, lt-ltb, eq-eqb, ne_eqb, eqb-true}
+use Rattle.std.proofs.Common.{ltb-true, le-ltb, lt-ltb, ne_eqb, eqb-true}
 use Rattle.decimal.proofs.Decide.{T_of, T_true, and_left, and_right}
 use Rattle.format.specs.Kind.{Kind, tag}
 use Rattle.format.specs.Syntax.{Quoted, int_key, string_key, Key}
@@ -33,17 +33,6 @@ stepped : {o : Bool} {s t : List ℕ} {i n : ℕ} {ks : List Key} → Chain o s 
 stepped {n = n} none h = absurd (omega arith)
 stepped {o = o} {s = s} {t = t} {n = n} (pair {i = i} {k = k} {ks = ks} h e l c) lt =
     record { key = k; rest = ks; is = refl; held = h; on = omega arith; chain = subst (λ (x : ℕ). Chain o s t x n ks) (sym e) c }
-
--- the pair at node i ends behind it, and not behind the last, which ends at n
-abbrev pub PairEnds : List ℕ → (i n : ℕ) → Type 0
-PairEnds t i n = (i + 1 < word_at t i pair_end) × (word_at t i pair_end ≤ n)
-
-pub walk_ends : {s t : List ℕ} {i n : ℕ} → Walk s t i n → i < n → PairEnds t i n
-walk_ends a lt = let step = stepped a.chain lt in (step.on, chain-le step.chain)
-
--- so the table has its key
-pub ends-key : (t : List ℕ) (i n : ℕ) → PairEnds t i n → n * width ≤ length t → key_words_in t i ≡ key_words_at t i
-ends-key t i n e h = key-there t i (omega (arith, e, h))
 
 -- ---- marking them
 
@@ -178,21 +167,6 @@ next_rising h w e = rw (next, e)
 next-marked : (h : Seen) (w : KeyWords) → rises h w ≡ false → next h w ≡ Seen.Marked
 unfolding next
 next-marked h w e = rw (next, e)
-
-pub next-is : (h : Seen) (w : KeyWords) (b : Bool) (n : ℕ) → b ≡ rises h w → n ≡ rank w.content → b ≡ true → Seen.Upto n ≡ next h w
-next-is h w b n e q z = ap Seen.Upto q ∙ sym (next_rising h w (sym e ∙ z))
-
-pub next-other : (h : Seen) (w : KeyWords) (b : Bool) → b ≡ rises h w → b ≡ false → Seen.Marked ≡ next h w
-next-other h w b e z = sym (next-marked h w (sym e ∙ z))
-
--- what `rises` answers
-pub rises_not : (h : Seen) (w : KeyWords) → (w.tag ≡ tag Kind.int → ⊥) → false ≡ rises h w
-unfolding rises
-rises_not h w n = sym (rw (rises, ne_eqb w.tag 105 n))
-
-pub rises-int : (h g : Seen) (w : KeyWords) (b : Bool) (n : ℕ) → w.tag ≡ tag Kind.int → h ≡ g → n ≡ rank w.content → b ≡ above g n → b ≡ rises h w
-unfolding rises
-rises-int h g w b n e q z a = a ∙ ap (above g) z ∙ sym (rw (rises, eq-eqb w.tag 105 e, q))
 
 module _ (o : Bool) (s t m : List ℕ) (first n : ℕ) (w : KeyWords) (h : Seen) (b : Bool) (is : b ≡ rises h w) where
   module _ (up : b ≡ true) where

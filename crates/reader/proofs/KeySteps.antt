@@ -6,31 +6,25 @@ use Rattle.format.specs.Bytes.{byte}
 use Rattle.format.specs.Kind.{Kind, tag, is_tag_of, key_kinds, may_be_key}
 use Rattle.format.specs.Syntax.{int_key, string_key, Key, write_number, write_key}
 use Rattle.format.specs.Keys.{has_key}
-use Rattle.format.specs.Answer.{Answer, ok, refused, ◌>>=◌, require, code_of}
+use Rattle.format.specs.Answer.{Answer, ok, refused, ◌>>=◌, require}
 use Rattle.format.specs.Read.{key_text, read_key}
 use Rattle.format.specs.Table.{Node, words, width, word_at, tag_word, content_word, size_word, key_node, text_offset}
-use Rattle.format.proofs.Answers.{not_both}
 use Rattle.format.proofs.Texts.{KeyKind, is-int, is-string, key_text-ok}
 use Rattle.format.proofs.Fronts.{number-length, quoted_length}
 use Rattle.format.proofs.Places.{quoted_text_lem}
 use Rattle.scanner.specs.declared.Text.{Text}
-use Rattle.scanner.specs.declared.Scan.{Scan}
-use Rattle.scanner.specs.Scans.{scan_answer, Found, Scans}
-use Rattle.scanner.proofs.Numbers.{unfit-of}
+use Rattle.scanner.specs.Scans.{Found}
 use Rattle.reader.specs.declared.cursor.Cursor.{Cursor}
-use Rattle.reader.specs.declared.cursor.Step.{Step}
 use Rattle.keys.specs.declared.KeyWords.{KeyWords}
 use Rattle.keys.specs.KeyWords.{key_words_at, key_kind, Says, Held}
 use Rattle.reader.specs.Texts.{kind_for, is_array_tag, key_told}
 use Rattle.reader.specs.Nodes.{node_of, NodeAdded}
-use Rattle.key_filter.specs.Filter.{Grows}
 use Rattle.reader.specs.declared.seen.Seen.{Seen}
 use Rattle.reader.specs.KeysSeen.{Known, next, Tested}
-use Rattle.reader.specs.Steps.{step_answer, Fit, GoodKey, Remembers, key_at}
+use Rattle.reader.specs.Steps.{Step, Fit, Earlier, GoodKey, Remembers, key_at}
 use Rattle.reader.proofs.Tagged.{position-is, tag-end, tag-other, tag_is, key-kind-is, key-any, one_of}
 use Rattle.reader.proofs.Bodies.{key-told, key-of-int, key-of-string}
 use Rattle.reader.proofs.Stored.{run_word}
-use Rattle.reader.proofs.Leaves.{refused-by}
 
 -- what the scan of a key says of its words
 module _ (a : Bool) (s : List ℕ) (at b : ℕ) (may : may_be_key b ≡ true) (here : at < length s) (tagged : get_or s at 0 ≡ b) (x : Text)
@@ -120,10 +114,6 @@ pub told_array : {s t m m' : List ℕ} {first node : ℕ} {w : KeyWords} {seen :
 unfolding is_array_tag
 told_array container d = d
 
-pub none_more : (of_array : Bool) (s t t' m m' : List ℕ) (first node : ℕ) (seen : Seen) (r : Step) (code at : ℕ) → r ≡ Step.Refused code at → Grows m m'
-    → Remembers of_array s t t' m m' first node seen r
-none_more of_array s t t' m m' first node seen r code at e g = record { grows = g; known = λ c' q. absurd (not_both (sym (ap step_answer e) ∙ q)) }
-
 pub one_more : (of_array : Bool) (s t t' m m' : List ℕ) (first capacity : ℕ) (seen : Seen) (c c' : Cursor) (b : ℕ) (x : Text) (r : Step) (found : Bool)
     → Fit s t capacity c → c.node < capacity → Tested of_array s t m m' first c.node (record { tag = b; content = x.content; size = x.size }) seen found
     → NodeAdded t t' c b x false c' → Remembers of_array s t t' m m' first c.node seen r
@@ -184,33 +174,40 @@ module _ (s : List ℕ) (capacity container : ℕ) (c : Cursor) (earlier : List 
           position-is s c.at inside,
         )
 
-        pub key_not : (scan : Scan) (code n : ℕ) → Scans (key_text a (kind_for b)) (key_told (c.at + 1)) s (c.at + 1) scan → scan ≡ Scan.Not code
-            → n ≡ code_of (scan_answer 0 scan) → given ≡ refused n c.at
-        key_not scan code n k g z = refused-by scan code n c.at given g z (opened ∙ rw (unfit-of k g c.at))
+        pub key_not : (code at : ℕ) → key_text a (kind_for b) c.at (drop (c.at + 1) s) ≡ refused code at → given ≡ refused code at
+        key_not code at z = opened ∙ rw z
 
         module _ (x : Text) (f : Found (key_text a (kind_for b)) (key_told (c.at + 1)) s (c.at + 1) x) where
-          pub key_twice : has_key f.what earlier ≡ true → given ≡ refused 9 c.at
-          key_twice g = opened ∙ rw (f.is c.at, g)
-
           may : may_be_key b ≡ true
           may = key-any a b e
 
           key-held : Held a s f.what (record { tag = b; content = x.content; size = x.size })
           key-held = held_of a s c.at b may h q x f e
 
-          pub key_good : (t t' : List ℕ) (c' : Cursor) → Fit s t capacity c → has_key f.what earlier ≡ false → NodeAdded t t' c b x false c'
-              → GoodKey a s t t' capacity c given c'
-          key_good t t' c' fit g p =
-              subst (GoodKey a s t t' capacity c given) (sym p.cursor) (record {
-                key = f.what;
-                is = opened ∙ rw (f.is c.at, g);
-                on = omega (arith, f.on);
-                inside = f.inside;
-                node = refl;
-                fits = omega arith;
-                ordinal = add-zero c.ordinal;
-                levels = refl;
-                table = p.table ∙ ap (λ (n : ℕ). sets t (c.node * width) (words (node_of b 0 n x))) (add-one c.node)
-                    ∙ ap (λ (n : Node). sets t (c.node * width) (words n)) (sym (key-node a s c.at b may h q x f c.node));
-                held = subst (Held a s f.what) (sym (added-words t t' c c' b x (omega arith) p)) key-held;
-              })
+          -- the test says whether it is among those read before
+          module _ {t m m' : List ℕ} {first : ℕ} {seen : Seen} {found : Bool}
+              (d : Tested a s t m m' first c.node (record { tag = b; content = x.content; size = x.size }) seen found)
+              (before : Earlier a s t m first c.node seen earlier) where
+            tested : has_key f.what earlier ≡ found
+            tested = before.same f.what ∙ sym (d.answer f.what before.keys key-held before.chain before.known)
+
+            pub key_twice : found ≡ true → given ≡ refused 9 c.at
+            key_twice z = let g = tested ∙ z in opened ∙ rw (f.is c.at, g)
+
+            pub key_good : found ≡ false → (t' : List ℕ) (c' : Cursor) → Fit s t capacity c → NodeAdded t t' c b x false c'
+                → GoodKey a s t t' capacity c given c'
+            key_good z t' c' fit p =
+                let g = tested ∙ z in
+                subst (GoodKey a s t t' capacity c given) (sym p.cursor) (record {
+                  key = f.what;
+                  is = opened ∙ rw (f.is c.at, g);
+                  on = omega (arith, f.on);
+                  inside = f.inside;
+                  node = refl;
+                  fits = omega arith;
+                  ordinal = add-zero c.ordinal;
+                  levels = refl;
+                  table = p.table ∙ ap (λ (n : ℕ). sets t (c.node * width) (words (node_of b 0 n x))) (add-one c.node)
+                      ∙ ap (λ (n : Node). sets t (c.node * width) (words n)) (sym (key-node a s c.at b may h q x f c.node));
+                  held = subst (Held a s f.what) (sym (added-words t t' c c' b x (omega arith) p)) key-held;
+                })

@@ -1,27 +1,24 @@
 -- The choice at a tag, the room for a value, scalars and references, by the definitions of reading. Assumes nothing.
 use Rattle.std.proofs.Common.{◌≡◌, ℕ, zero, suc, ◌+◌, ◌-◌, ◌*◌, ◌<◌, ◌≤◌, Bool, true, false, ◌&&◌, T, ltb, leb, List, [], ◌∷◌, length, get_or, drop}
 use Rattle.std.proofs.Common.{sym, refl, ap, ◌∙◌, subst, add-one, sub-one, arith, lit<, ltb→lt, le-ltb, lt-ltb, le-leb}
+use Rattle.std.specs.Prelude.{Option, unwrap_or}
 use lib.Seq.{sets}
 use borrow.Author.Tests.{lt-leb}
 use Rattle.format.specs.Kind.{Kind, kinds, scalar_kinds, is_tag_of, has_ordinal}
 use Rattle.format.specs.Tree.{leaf, ref, nodes, ordinals, one}
 use Rattle.format.specs.Syntax.{Reference, Value, own}
 use Rattle.format.specs.Limits.{Seen}
-use Rattle.format.specs.Answer.{Answer, ok, refused, ◌>>=◌, require, code_of}
+use Rattle.format.specs.Answer.{Answer, ok, refused, ◌>>=◌, require}
 use Rattle.format.specs.Read.{scalar_text, named_text, read_body, read_value}
 use Rattle.format.specs.Table.{Node, words, width, flat, ref_node, taken, table}
 use Rattle.format.proofs.Answers.{bind_ok, require-ok}
 use Rattle.format.proofs.Tags.{all}
 use Rattle.scanner.specs.declared.Text.{Text}
-use Rattle.scanner.specs.declared.Scan.{Scan}
-use Rattle.scanner.specs.Scans.{scan_answer, Found, Scans, value_told, scalar_told}
-use Rattle.scanner.proofs.Numbers.{unfit-of}
+use Rattle.scanner.specs.Scans.{Found, value_told, scalar_told}
 use Rattle.reader.specs.declared.cursor.Cursor.{Cursor}
-use Rattle.reader.specs.declared.cursor.Step.{Step}
-use Rattle.reader.specs.declared.cursor.Gate.{Gate}
 use Rattle.reader.specs.Texts.{kind_for, OneOf, scalar_tag, reference_kinds, reference_tag}
 use Rattle.reader.specs.Nodes.{node_of, NodeAdded, CarrierIn}
-use Rattle.reader.specs.Steps.{Points, Takes, Fit, KeptBelow, GoodValue, Meets, TagAt, room_at, gate_answer, setting_at, value_at, inner_at}
+use Rattle.reader.specs.Steps.{Points, Takes, Fit, KeptBelow, GoodValue, TagAt, room_at, setting_at, value_at, inner_at}
 use Rattle.reader.proofs.Tagged.{position-is, tag-end, tag-other, tag_is, passes}
 use Rattle.reader.proofs.Bodies.{body-scalar, scalar-node, ref_for, resolved, body-reference, ref-tag}
 use Rattle.reader.proofs.Stored.{run_kept, run_word, points_kept, points_add, link-is}
@@ -59,18 +56,6 @@ module _ (s : List ℕ) (capacity at node : ℕ) (seen : Seen) where
 -- ---- whether there is room
 
 module _ (capacity : ℕ) (c : Cursor) where
-  pub room-deep : c.levels ≡ 0 → refused 8 c.at ≡ room_at capacity c
-  unfolding room_at
-  room-deep e = rw (le-ltb 0 c.levels (omega arith))
-
-  pub room-full : (c.levels ≡ 0 → ⊥) → capacity ≤ c.node → refused 7 c.at ≡ room_at capacity c
-  unfolding room_at
-  room-full e f = rw (lt-ltb 0 c.levels (omega (arith, e)), le-ltb c.node capacity f)
-
-  pub room_free : (c.levels ≡ 0 → ⊥) → c.node < capacity → ok tt ≡ room_at capacity c
-  unfolding room_at
-  room_free e f = rw (lt-ltb 0 c.levels (omega (arith, e)), lt-ltb c.node capacity f)
-
   pub room-there : ok tt ≡ room_at capacity c → (0 < c.levels) × (c.node < capacity)
   unfolding room_at
   room-there e =
@@ -78,10 +63,6 @@ module _ (capacity : ℕ) (c : Cursor) where
         ltb→lt 0 c.levels (require-ok (ltb 0 c.levels) 8 c.at _ both.1),
         ltb→lt c.node capacity (require-ok (ltb c.node capacity) 7 c.at _ both.2),
       )
-
-  -- what the code's check says, by its case
-  pub gate_of : (r g : Gate) → gate_answer c.at r ≡ room_at capacity c → r ≡ g → gate_answer c.at g ≡ room_at capacity c
-  gate_of r g h e = sym (ap (gate_answer c.at) e) ∙ h
 
 module _ (s : List ℕ) (capacity : ℕ) (c : Cursor) where
   pub gate_end : length s ≤ c.at → c.at ≤ length s → value_at s capacity c ≡ refused 2 c.at
@@ -102,8 +83,8 @@ module _ (s : List ℕ) (capacity : ℕ) (c : Cursor) where
       unfolding value_at inner_at room_at
       checked = at-known s capacity c.at c.node c.ordinal b here.inside here.is (passes (is_tag_of kinds) ks b taken is) c.levels
 
-      pub gate_shut : (code : ℕ) → refused code c.at ≡ room_at capacity c → value_at s capacity c ≡ refused code c.at
-      gate_shut code e = checked ∙ ap (λ (o : Answer (Unit {0})). o >>= λ u. rest) (sym e)
+      pub gate_shut : (code at : ℕ) → refused code at ≡ room_at capacity c → value_at s capacity c ≡ refused code at
+      gate_shut code at e = checked ∙ ap (λ (o : Answer (Unit {0})). o >>= λ u. rest) (sym e)
 
       pub gate_open : ok tt ≡ room_at capacity c → value_at s capacity c ≡ rest
       gate_open e = checked ∙ ap (λ (o : Answer (Unit {0})). o >>= λ u. rest) (sym e)
@@ -156,34 +137,14 @@ module _ (s t t' : List ℕ) (capacity : ℕ) (c c' : Cursor) (b : ℕ) (x : Tex
 
 -- ---- scalars
 
--- what is refused is refused by the number that the code takes from the scan
-pub refused-by : {A : Type 0} (scan : Scan) (code n at : ℕ) (o : Answer A) → scan ≡ Scan.Not code → n ≡ code_of (scan_answer 0 scan) → o ≡ refused code at
-    → o ≡ refused n at
-refused-by scan code n at o e q h = h ∙ ap (λ (k : ℕ). refused k at) (sym (q ∙ ap (λ (x : Scan). code_of (scan_answer 0 x)) e))
-
-pub meets_bad : (s t t' : List ℕ) (capacity : ℕ) (c : Cursor) (o : Answer (Value × List ℕ)) (r : Step) (code at : ℕ) → r ≡ Step.Refused code at
-    → o ≡ refused code at → Meets s t t' capacity c o r
-meets_bad s t t' capacity c o r code at e h = subst (Meets s t t' capacity c o) (sym e) h
-
--- the tag at a copy of the cursor
-pub tag_again : {s : List ℕ} {c d : Cursor} {b : ℕ} → d ≡ c → TagAt s c b → TagAt s d b
-tag_again {s} {b = b} e h = subst (λ (x : Cursor). TagAt s x b) (sym e) h
-
--- what a call said of it, told anew
-pub meets_again : (s t t' : List ℕ) (capacity : ℕ) (c d : Cursor) (r q : Step) → d ≡ c → q ≡ r → Meets s t t' capacity d (value_at s capacity d) r
-    → Meets s t t' capacity c (value_at s capacity c) q
-meets_again s t t' capacity c d r q e f h =
-    subst (Meets s t t' capacity c (value_at s capacity c)) (sym f) (subst (λ (x : Cursor). Meets s t t' capacity x (value_at s capacity x) r) e h)
-
 module _ (s : List ℕ) (capacity : ℕ) (c : Cursor) (b : ℕ) (here : TagAt s c b) (is : scalar_tag b) (room : ok tt ≡ room_at capacity c) where
   opened : value_at s capacity c ≡ (scalar_text (kind_for b) c.at (drop (c.at + 1) s) >>= λ q. ok (leaf q.0, q.1))
   opened =
       gate_open s capacity c b here scalar_kinds tt is room
       ∙ body-scalar (setting_at s capacity) (inner_at s capacity (c.levels - 1)) b c.at c.ordinal c.node (drop (c.at + 1) s) is
 
-  pub scalar_not : (scan : Scan) (code n : ℕ) → Scans (scalar_text (kind_for b)) (scalar_told (c.at + 1)) s (c.at + 1) scan
-      → scan ≡ Scan.Not code → n ≡ code_of (scan_answer 0 scan) → value_at s capacity c ≡ refused n c.at
-  scalar_not scan code n h e q = refused-by scan code n c.at (value_at s capacity c) e q (opened ∙ rw (unfit-of h e c.at))
+  pub scalar_not : (code at : ℕ) → scalar_text (kind_for b) c.at (drop (c.at + 1) s) ≡ refused code at → value_at s capacity c ≡ refused code at
+  scalar_not code at e = opened ∙ rw e
 
   pub scalar_good : (t t' : List ℕ) (x : Text) (c' : Cursor) (takes : Bool) → Fit s t capacity c
       → Found (scalar_text (kind_for b)) (scalar_told (c.at + 1)) s (c.at + 1) x → takes ≡ has_ordinal b → NodeAdded t t' c b x takes c'
@@ -207,9 +168,8 @@ module _ (s : List ℕ) (capacity : ℕ) (c : Cursor) (b : ℕ) (here : TagAt s 
       gate_open s capacity c b here reference_kinds tt is room
       ∙ body-reference (setting_at s capacity) (inner_at s capacity (c.levels - 1)) b c.at c.ordinal c.node (drop (c.at + 1) s) is
 
-  pub reference_not : (scan : Scan) (code n : ℕ) → Scans named_text value_told s (c.at + 1) scan → scan ≡ Scan.Not code → n ≡ code_of (scan_answer 0 scan)
-      → value_at s capacity c ≡ refused n c.at
-  reference_not scan code n h e q = refused-by scan code n c.at (value_at s capacity c) e q (named-at ∙ rw (unfit-of h e c.at))
+  pub reference_not : (code at : ℕ) → named_text c.at (drop (c.at + 1) s) ≡ refused code at → value_at s capacity c ≡ refused code at
+  reference_not code at e = named-at ∙ rw e
 
   module _ (x : Text) (f : Found named_text value_told s (c.at + 1) x) where
     value-is : f.what.1 ≡ x.content
@@ -237,11 +197,11 @@ module _ (s : List ℕ) (capacity : ℕ) (c : Cursor) (b : ℕ) (here : TagAt s 
             earlier : ℕ → Answer (Value × List ℕ)
             earlier n = require (ltb 0 n && leb n c.ordinal) 6 c.at >>= λ u. ok (ref reference, drop x.next s)
 
-        pub reference_good : (t t' : List ℕ) (target next : ℕ) (c' : Cursor) (takes : Bool) → Fit s t capacity c → next ≡ x.next
-            → takes ≡ has_ordinal b → CarrierIn t 0 c.node x.content target
+        pub reference_good : (t t' : List ℕ) (found : Option ℕ) (target next : ℕ) (c' : Cursor) (takes : Bool) → Fit s t capacity c → next ≡ x.next
+            → takes ≡ has_ordinal b → CarrierIn t 0 c.node x.content found → target ≡ unwrap_or found c.node
             → NodeAdded t t' c b (record { content = x.content; size = 0; link = target; next = next }) takes c'
             → GoodValue s t t' capacity c (value_at s capacity c) c'
-        reference_good t t' target next c' takes fit n e found p =
+        reference_good t t' found target next c' takes fit n e carried v p =
             leaf_good s t t' capacity c c' b (record { content = x.content; size = 0; link = target; next = next }) takes fit (room-there capacity c room).1 p
             (value_at s capacity c) (ref reference)
             (accepted ∙ ap (λ (k : ℕ). ok (ref reference, drop k s)) (sym n)) (omega (arith, f.on)) (omega (arith, f.inside)) refl (ap one own_is)
@@ -260,4 +220,4 @@ module _ (s : List ℕ) (capacity : ℕ) (c : Cursor) (b : ℕ) (here : TagAt s 
                 ap (λ (k : ℕ). row k (taken (own reference) (suc c.ordinal)) f.what.1 (to f.what.1)) (ref-tag b is)
                 ∙ ap (λ (o : Bool). row b (taken o (suc c.ordinal)) f.what.1 (to f.what.1)) own_is
                 ∙ ap (λ (k : ℕ). row b (taken takes (suc c.ordinal)) k (to k)) value-is
-                ∙ ap (row b (taken takes (suc c.ordinal)) x.content) (sym (link-is to t c.node c.ordinal q x.content target found some h))
+                ∙ ap (row b (taken takes (suc c.ordinal)) x.content) (sym (v ∙ link-is to t c.node c.ordinal q x.content found carried some h))

@@ -1,6 +1,7 @@
 mod Tagged
 mod Bodies
 mod Stored
+mod Exits
 mod Leaves
 mod KeyLaws
 mod KeySteps
@@ -10,5 +11,4 @@ mod HeadTexts
 mod ContainerSteps
 mod WholeSteps
 mod ScalarTexts
-mod AddedNodes
 pub mod Promised

@@ -1,7 +1,8 @@
 -- The loop over a container's pairs, by the definitions of reading. Assumes nothing.
-use Rattle.std.proofs.Common.{◌≡◌, ℕ, zero, suc, ◌+◌, ◌-◌, ◌*◌, ◌<◌, ◌≤◌, Bool, true, false, ◌||◌, List, [], ◌∷◌, ◌++◌, length, get_or, drop, sym}
-use Rattle.std.proofs.Common.{refl, ap, ◌∙◌, subst, subst₂, sub-one, arith, lit<, length-drop}
+use Rattle.std.proofs.Common.{◌≡◌, ℕ, suc, ◌+◌, ◌*◌, ◌<◌, ◌≤◌, Bool, true, false, ◌||◌, List, [], ◌∷◌, ◌++◌, length, get_or, drop, sym}
+use Rattle.std.proofs.Common.{refl, ap, ◌∙◌, subst, subst₂, arith, lit<, length-drop}
 use lib.Seq.{sets}
+use Rattle.std.specs.Prelude.{Ok}
 use Rattle.decimal.proofs.Stores.{sets-append}
 use Rattle.format.specs.Tree as tree
 use Rattle.format.specs.Tree.{leaf, ref, branch, nodes, nodes_in, ordinals, ordinals_in}
@@ -16,15 +17,14 @@ use Rattle.format.proofs.Rows.{table_in-length}
 use Rattle.keys.proofs.NodeKeys.{key-there}
 use Rattle.keys.proofs.Chains.{chain-le}
 use Rattle.reader.specs.declared.cursor.Cursor.{Cursor}
-use Rattle.reader.specs.declared.cursor.Step.{Step}
 use Rattle.key_filter.specs.Filter.{Grows}
 use Rattle.reader.specs.declared.seen.Seen.{Seen}
 use Rattle.keys.specs.declared.KeyWords.{KeyWords}
 use Rattle.keys.specs.KeyWords.{key_words_at, key_words_in, Held, Chain, none, pair}
 use Rattle.reader.specs.Texts.{is_array_tag}
-use Rattle.reader.specs.KeysSeen.{Walk, Known, next}
-use Rattle.reader.specs.Steps.{Points, Takes, TakesIn, Fit, KeptBelow, WroteIn, GoodValue, GoodPairs, GoodKey, MeetsPairs, Earlier, Remembers, inner_at}
-use Rattle.reader.specs.Steps.{step_answer, terms_at, setting_at, value_at, pairs_at, key_at}
+use Rattle.reader.specs.KeysSeen.{Known, next}
+use Rattle.reader.specs.Steps.{Points, Takes, TakesIn, Fit, KeptBelow, WroteIn, GoodValue, GoodPairs, GoodKey, Earlier, Remembers, inner_at}
+use Rattle.reader.specs.Steps.{Step, step_answer, terms_at, setting_at, value_at, pairs_at, key_at}
 use Rattle.key_filter.proofs.Marking.{grows_none, grows-on}
 use Rattle.reader.proofs.KeyLaws.{known-grows}
 use Rattle.reader.proofs.Snoc.{snoc, onto, onto-none, onto-done, onto-refused, onto-snoc, nodes-snoc, ordinals-snoc, key-adds, write-adds, length-snoc}
@@ -77,14 +77,14 @@ pub record Run (s t₀ t m₀ m : List ℕ) (capacity container count : ℕ) (c�
   pub grown : Grows m₀ m
   pub filter-long : length m ≡ length m₀
 
-pub run_start : (s t m : List ℕ) (capacity container count : ℕ) (c : Cursor) → Fit s t capacity c
-    → Run s t t m m capacity container count c c count Seen.Nothing
+pub run_start : (s t m : List ℕ) (capacity container count more : ℕ) (c : Cursor) → more ≡ count → Fit s t capacity c
+    → Run s t t m m capacity container count c c more Seen.Nothing
 unfolding write pairs_at rest_at
-run_start s t m capacity container count c f =
+run_start s t m capacity container count more c e f =
     record {
       pairs = tree.none;
       earlier = [];
-      all = sym (onto-none (rest_at s capacity container c.levels count [] c));
+      all = rw e (sym (onto-none (rest_at s capacity container c.levels count [] c)));
       keys = record { keys = []; chain = none; same = λ k. refl; known = refl };
       node = omega arith;
       ordinal = omega arith;
@@ -100,9 +100,6 @@ run_start s t m capacity container count c f =
 
 module _ {s t₀ t m₀ m : List ℕ} {capacity container count : ℕ} {c₀ c : Cursor} {more : ℕ} {seen : Seen}
     (r : Run s t₀ t m₀ m capacity container count c₀ c more seen) where
-  pub run_walk : Walk s t c₀.node c.node
-  run_walk = record { of_array = is_array_tag container; keys = r.keys.keys; chain = r.keys.chain }
-
   pub run_on : c₀.at ≤ c.at
   run_on = omega (arith, r.behind)
 
@@ -125,20 +122,17 @@ module _ {s t₀ t m₀ m : List ℕ} {capacity container count : ℕ} {c₀ c :
         wrote = r.wrote;
       }
 
-  module _ (some : 0 < more) where
+  module _ (left : ℕ) (some : more ≡ suc left) where
     -- the pairs that are left are a key, a value and the pairs behind them
-    rest_bad : (code at : ℕ) → rest_at s capacity container c₀.levels more r.earlier c ≡ refused code at → given ≡ refused code at
-    rest_bad code at e = r.all ∙ ap (onto r.pairs) e ∙ onto-refused r.pairs code at
+    all_left : given ≡ onto r.pairs (rest_at s capacity container c₀.levels (suc left) r.earlier c)
+    all_left = r.all ∙ rw some
+
+    rest_bad : (code at : ℕ) → rest_at s capacity container c₀.levels (suc left) r.earlier c ≡ refused code at → given ≡ refused code at
+    rest_bad code at e = all_left ∙ ap (onto r.pairs) e ∙ onto-refused r.pairs code at
 
     pub run_key_bad : (code at : ℕ) → key_at s capacity container r.earlier c ≡ refused code at → given ≡ refused code at
     unfolding rest_at key_at
-    run_key_bad code at e = rest_bad code at (go more some)
-      where
-        go : (m : ℕ) → 0 < m
-            → read_pairs (setting_at s capacity) (inner_at s capacity c₀.levels) (is_array_tag container) m r.earlier c.ordinal c.node
-            (drop c.at s) ≡ refused code at
-        go zero h = absurd (omega arith)
-        go (suc m) h = rw e
+    run_key_bad code at e = rest_bad code at (rw e)
 
     module _ (t₁ : List ℕ) (mid : Cursor) (k : GoodKey (is_array_tag container) s t t₁ capacity c (key_at s capacity container r.earlier c) mid) where
       value-is : inner_at s capacity c₀.levels c.ordinal (suc c.node) (drop mid.at s) ≡ value_at s capacity mid
@@ -151,13 +145,7 @@ module _ {s t₀ t m₀ m : List ℕ} {capacity container count : ℕ} {c₀ c :
 
       pub run_value_bad : (code at : ℕ) → value_at s capacity mid ≡ refused code at → given ≡ refused code at
       unfolding rest_at key_at
-      run_value_bad code at e = rest_bad code at (go more some)
-        where
-          go : (m : ℕ) → 0 < m
-              → read_pairs (setting_at s capacity) (inner_at s capacity c₀.levels) (is_array_tag container) m r.earlier c.ordinal c.node
-              (drop c.at s) ≡ refused code at
-          go zero h = absurd (omega arith)
-          go (suc m) h = rw (k.is, value-is, e)
+      run_value_bad code at e = rest_bad code at (rw (k.is, value-is, e))
 
       pub mid_fit : length t₁ ≡ length t → Fit s t₁ capacity mid
       mid_fit l = let f = r.fit in record { inside = k.inside; table = omega arith; node = k.fits; ordinal = omega (arith, k.node, k.ordinal) }
@@ -171,7 +159,7 @@ module _ {s t₀ t m₀ m : List ℕ} {capacity container count : ℕ} {c₀ c :
 
       module _ (t₂ : List ℕ) (after : Cursor) (g : GoodValue s t₁ t₂ capacity mid (value_at s capacity mid) after) (l₁ : length t₁ ≡ length t)
           (l₂ : length t₂ ≡ length t₁)
-          (m₁ m₂ : List ℕ) (n₁ : length m₁ ≡ length m) (n₂ : length m₂ ≡ length m₁) (step : Step) (done : step ≡ Step.Done mid)
+          (m₁ m₂ : List ℕ) (n₁ : length m₁ ≡ length m) (n₂ : length m₂ ≡ length m₁) (step : Step) (done : step ≡ Ok mid)
           (a : Remembers (is_array_tag container) s t t₁ m m₁ c₀.node c.node seen step) (b : Grows m₁ m₂)
           (seen' : Seen) (w : KeyWords) (of-key : w ≡ key_words_in t₁ c.node) (e : seen' ≡ next seen w) where
         value-long : after.at ≡ mid.at + length (write g.value [])
@@ -189,21 +177,13 @@ module _ {s t₀ t m₀ m : List ℕ} {capacity container count : ℕ} {c₀ c :
               g.on,
             )
 
-        rest_good : rest_at s capacity container c₀.levels more r.earlier c
-            ≡ (rest_at s capacity container c₀.levels (more - 1) (k.key ∷ r.earlier) after >>= λ q. ok (tree.pair k.key g.value q.0, q.1))
+        rest_good : rest_at s capacity container c₀.levels (suc left) r.earlier c
+            ≡ (rest_at s capacity container c₀.levels left (k.key ∷ r.earlier) after >>= λ q. ok (tree.pair k.key g.value q.0, q.1))
         unfolding rest_at key_at
-        rest_good = go more some
-          where
-            go : (m : ℕ) → 0 < m
-                → read_pairs (setting_at s capacity) (inner_at s capacity c₀.levels) (is_array_tag container) m r.earlier c.ordinal c.node (drop c.at s)
-                ≡ (read_pairs (setting_at s capacity) (inner_at s capacity c₀.levels) (is_array_tag container) (m - 1) (k.key ∷ r.earlier) after.ordinal
-                after.node (drop after.at s)
-                >>= λ q. ok (tree.pair k.key g.value q.0, q.1))
-            go zero h = absurd (omega arith)
-            go (suc m) h =
-                let x : c.ordinal + ordinals own g.value ≡ after.ordinal = omega (arith, g.ordinal, k.ordinal) in
-                let y : suc (c.node + nodes g.value) ≡ after.node = omega (arith, g.node, k.node) in
-                rw (k.is, value-is, g.is, x, y, sub-one (suc m))
+        rest_good =
+            let x : c.ordinal + ordinals own g.value ≡ after.ordinal = omega (arith, g.ordinal, k.ordinal) in
+            let y : suc (c.node + nodes g.value) ≡ after.node = omega (arith, g.node, k.node) in
+            rw (k.is, value-is, g.is, x, y)
 
         ordinal-none : (j : Key) (o i : ℕ) → get_or (words (key_node o i j)) 1 0 ≡ 0
         ordinal-none (int_key x) o i = refl
@@ -296,13 +276,13 @@ module _ {s t₀ t m₀ m : List ℕ} {capacity container count : ℕ} {c₀ c :
                 ∙ ap (λ (n : ℕ). before to ++ (words (key_node c.at c.node k.key) ++ flat (table to mid.at n (suc mid.ordinal) g.value)))
                 next-node)
 
-        pub run_more : Run s t₀ t₂ m₀ m₂ capacity container count c₀ after (more - 1) seen'
+        pub run_more : Run s t₀ t₂ m₀ m₂ capacity container count c₀ after left seen'
         run_more =
             record {
               pairs = snoc r.pairs k.key g.value;
               earlier = k.key ∷ r.earlier;
-              all = r.all ∙ ap (onto r.pairs) rest_good
-                  ∙ onto-snoc r.pairs k.key g.value (rest_at s capacity container c₀.levels (more - 1) (k.key ∷ r.earlier) after);
+              all = all_left ∙ ap (onto r.pairs) rest_good
+                  ∙ onto-snoc r.pairs k.key g.value (rest_at s capacity container c₀.levels left (k.key ∷ r.earlier) after);
               keys = listed;
               node = omega (arith, r.node, k.node, g.node, nodes-snoc r.pairs k.key g.value);
               ordinal = omega (arith, r.ordinal, k.ordinal, g.ordinal, ordinals-snoc r.pairs k.key g.value);
@@ -323,7 +303,3 @@ module _ {s t₀ t m₀ m : List ℕ} {capacity container count : ℕ} {c₀ c :
               node = g.fits;
               ordinal = omega (arith, g.ordinal, g.node, k.ordinal, k.node, ordinals-le g.value);
             }
-
-pub pairs_bad : (s t t' : List ℕ) (capacity : ℕ) (c : Cursor) (o : Answer (Values × List ℕ)) (r : Step) (code at : ℕ) → r ≡ Step.Refused code at
-    → o ≡ refused code at → MeetsPairs s t t' capacity c o r
-pairs_bad s t t' capacity c o r code at e h = subst (MeetsPairs s t t' capacity c o) (sym e) h

@@ -1,6 +1,7 @@
 -- Laws of words stored in the table, and of the nodes that ordinals name. Assumes nothing.
 use Rattle.std.proofs.Common.{◌≡◌, ℕ, zero, suc, ◌+◌, ◌*◌, ◌<◌, ◌≤◌, Bool, true, false, T, List, [], ◌∷◌, ◌++◌, length, get_or, set, sym, refl, ap}
 use Rattle.std.proofs.Common.{◌∙◌, subst, add-zero, add-suc, suc-add, arith, length-append, get_or-set_other, get_or-set_same, set-set}
+use Rattle.std.specs.Prelude.{Option, Some, None, unwrap_or}
 use lib.Seq.{sets, set_comm, length-sets}
 use Rattle.decimal.proofs.Decide.{Order, below, above, order}
 use Rattle.decimal.proofs.Stores.{sets-append}
@@ -128,12 +129,6 @@ module _ (to : ℕ → ℕ) (t : List ℕ) (node ordinal : ℕ) (p : Points to t
   points_add false w e = subst (Points to t (node + 1)) (sym (add-zero ordinal)) (points_skip w)
 
   -- the node found for an ordinal is the one that took it
-  pub link-is : (n r : ℕ) → CarrierIn t 0 node n r → 1 ≤ n → n ≤ ordinal → r ≡ to n
-  link-is n r f a b = go (order r node)
-    where
-      q : (to n < node) × (word_at t (to n) ordinal_word ≡ n)
-      q = p.found n a b
-
-      go : Order r node → r ≡ to n
-      go (below l) = p.only n r a l (f.found l)
-      go (above l) = absurd (f.none l (to n) (omega arith) q.0 q.1)
+  pub link-is : (n : ℕ) (r : Option ℕ) → CarrierIn t 0 node n r → 1 ≤ n → n ≤ ordinal → unwrap_or r node ≡ to n
+  link-is n (Some i) f a b = p.only n i a f.found.0 f.found.1
+  link-is n None f a b = let q = p.found n a b in absurd (f.none (to n) (omega arith) q.0 q.1)

@@ -6,8 +6,8 @@ use Rattle.decimal.proofs.Decide.{Test, passed, failed, test, T_true, and_left, 
 use Rattle.format.specs.Kind.{Kind, kinds, tag, is_tag_of, key_kinds, may_be_key}
 use Rattle.format.specs.Answer.{ok, refused, ◌>>=◌}
 use Rattle.format.specs.Read.{kind_of, tag_of}
-use Rattle.format.proofs.Tags.{Arm, Rest, all, arm_is, rest_not}
-use Rattle.reader.specs.Texts.{among, kind_for, is_array_tag, OneOf, container_tag}
+use Rattle.format.proofs.Tags.{Rest, all, rest_not}
+use Rattle.reader.specs.Texts.{among, kind_for, OneOf}
 
 -- the position of what is left
 pub position-is : (s : List ℕ) (i : ℕ) → i ≤ length s → length s - length (drop i s) ≡ i
@@ -91,36 +91,6 @@ pub key-any : (a : Bool) (b : ℕ) → is_tag_of (key_kinds a) b ≡ true → ma
 key-any true b e = e
 key-any false b e = ⊎_elim (λ q. rw q) (λ z. absurd z) (one_of (key_kinds false) b e)
 
--- the test of the code: no key, a string, or an integer in an array
-pub key-none : (container b : ℕ) → may_be_key b ≡ false → false ≡ is_tag_of (key_kinds (is_array_tag container)) b
-key-none container b e = go (is_array_tag container)
-  where
-    go : (a : Bool) → false ≡ is_tag_of (key_kinds a) b
-    go true = sym e
-    go false = sym (string_not (test (eqb b (tag Kind.string))))
-      where
-        string_not : Test (eqb b (tag Kind.string)) → is_tag_of (key_kinds false) b ≡ false
-        string_not (passed t) = absurd (not_one (key_kinds true) b e (inr (inl (eqb-true b (tag Kind.string) t))))
-        string_not (failed t) = rw t
-
-pub key-string : (container b : ℕ) → b ≡ tag Kind.string → true ≡ is_tag_of (key_kinds (is_array_tag container)) b
-key-string container b e = rw e (go (is_array_tag container))
-  where
-    go : (a : Bool) → true ≡ is_tag_of (key_kinds a) (tag Kind.string)
-    go true = refl
-    go false = refl
-
-pub key-int : (container b : ℕ) → may_be_key b ≡ true → (b ≡ tag Kind.string → ⊥) → eqb container (tag Kind.array) ≡ is_tag_of (key_kinds (is_array_tag container)) b
-unfolding is_array_tag
-key-int container b e n = rw is-int (go (eqb container (tag Kind.array)))
-  where
-    is-int : b ≡ tag Kind.int
-    is-int = ⊎_elim (λ q. q) (λ o. ⊎_elim (λ q. absurd (n q)) (λ z. absurd z) o) (one_of (key_kinds true) b e)
-
-    go : (a : Bool) → a ≡ is_tag_of (key_kinds a) (tag Kind.int)
-    go true = refl
-    go false = refl
-
 -- ---- the choice among the nine
 
 -- the arms of the code's match: the compiler puts their tags in the order of their numbers
@@ -133,11 +103,5 @@ container_arm = Kind.object ∷ Kind.array ∷ []
 abbrev pub reference_arm : List Kind
 reference_arm = Kind.variable_reference ∷ Kind.object_reference ∷ []
 
-pub chosen : (js ks : List Kind) (b : ℕ) → T (all ks (is_tag_of js)) → Arm ks b → OneOf js b
-chosen js ks b w a = one_of js b (sym (arm_is js ks b w a))
-
 pub none-chosen : (b : ℕ) → Rest (reference_arm ∷ container_arm ∷ scalar_arm ∷ []) b → is_tag_of kinds b ≡ false
 none-chosen b r = sym (rest_not kinds (reference_arm ∷ container_arm ∷ scalar_arm ∷ []) b tt r)
-
-pub container-object : (b : ℕ) → container_tag b → (b ≡ tag Kind.array → ⊥) → b ≡ tag Kind.object
-container-object b o n = ⊎_elim (λ q. absurd (n q)) (λ o. ⊎_elim (λ q. q) (λ z. absurd z) o) o

@@ -1,5 +1,5 @@
 -- A whole plan, by the definitions of reading. Assumes nothing.
-use Rattle.std.proofs.Common.{◌≡◌, ℕ, ◌+◌, ◌-◌, ◌*◌, ◌/◌, ◌<◌, ◌≤◌, List, ◌++◌, length, drop, replicate, sym, ap, ◌∙◌, subst, ap₂, zero-add, arith}
+use Rattle.std.proofs.Common.{◌≡◌, ℕ, ◌+◌, ◌-◌, ◌*◌, ◌/◌, ◌<◌, ◌≤◌, List, ◌++◌, length, Ok, Err, drop, replicate, sym, ap, ◌∙◌, subst, ap₂, zero-add, arith}
 use Rattle.std.proofs.Common.{drop_of_length-le, drop-cons, le-leb}
 use lib.Seq.{sets-eq}
 use borrow.Author.Tests.{lt-leb}
@@ -7,16 +7,16 @@ use Rattle.format.specs.Bytes.{is_empty}
 use Rattle.format.specs.Tree.{nodes, ordinals}
 use Rattle.format.specs.Syntax.{Value, own}
 use Rattle.format.specs.Limits.{source_limit, depth_limit}
+use Rattle.format.specs.declared.codes.Refusal.{Refusal}
+use Rattle.format.specs.Codes.{number_of}
 use Rattle.format.specs.Answer.{Answer, ok, refused, ◌>>=◌, require}
 use Rattle.format.specs.Read.{read_in, read}
 use Rattle.format.specs.Table.{width, flat, table_of, target_of}
 use Rattle.format.specs.Reading.{terms_of, answer}
 use Rattle.format.proofs.Results.{table_of-length, flat-length, after-accepted, after-refused}
-use Rattle.reader.specs.declared.Reading.{Reading}
 use Rattle.reader.specs.declared.cursor.Cursor.{Cursor}
-use Rattle.reader.specs.declared.cursor.Step.{Step}
 use Rattle.reader.specs.Promise.{reading_answer, Reads}
-use Rattle.reader.specs.Steps.{terms_at, value_at, GoodValue, GoodWhole, Whole}
+use Rattle.reader.specs.Steps.{Step, terms_at, value_at, GoodValue, GoodWhole, Whole}
 use Rattle.reader.proofs.Snoc.{takes_whole}
 use Rattle.reader.proofs.Stored.{points_none}
 use Rattle.reader.proofs.Tagged.{position-is}
@@ -59,19 +59,18 @@ module _ (s : List ℕ) (capacity : ℕ) where
           table = (g.wrote.of (target_of g.value) (points_none (target_of g.value) t) (takes_whole g.value)).0;
         }
 
-pub whole-refused : (s t t' : List ℕ) (capacity : ℕ) (r : Step) (code at : ℕ) → r ≡ Step.Refused code at → read (terms_at capacity) s ≡ refused code at
-    → Whole s t t' capacity r
-whole-refused s t t' capacity r code at e h = subst (Whole s t t' capacity) (sym e) h
-
 module _ (s t t₁ t₂ : List ℕ) (r : Step) where
-  pub reads-refused : (code at : ℕ) → Whole s t t₁ (length t / width) r → r ≡ Step.Refused code at → t₂ ≡ replicate (length t₁) 0 → length t₁ ≡ length t
-      → Reads s t t₂ (Reading.Refused code at)
+  pub reads-refused : (why : Refusal) → Whole s t t₁ (length t / width) r → r ≡ Err why → t₂ ≡ replicate (length t₁) 0 → length t₁ ≡ length t
+      → Reads s t t₂ (Err why)
   unfolding reading_answer answer
-  reads-refused code at w e k l =
-      let q : read (terms_of t) s ≡ refused code at = subst (Whole s t t₁ (length t / width)) e w in
-      record { answer = sym (rw q); table = k ∙ ap (λ (n : ℕ). replicate n 0) l ∙ sym (after-refused (terms_of t) s t code at q) }
+  reads-refused why w e k l =
+      let q : read (terms_of t) s ≡ refused (number_of why.code) why.at = subst (Whole s t t₁ (length t / width)) e w in
+      record {
+        answer = sym (rw q);
+        table = k ∙ ap (λ (n : ℕ). replicate n 0) l ∙ sym (after-refused (terms_of t) s t (number_of why.code) why.at q);
+      }
 
-  pub reads-accepted : (c : Cursor) → Whole s t t₁ (length t / width) r → r ≡ Step.Done c → Reads s t t₁ (Reading.Accepted c.node c.ordinal)
+  pub reads-accepted : (c : Cursor) → Whole s t t₁ (length t / width) r → r ≡ Ok c → Reads s t t₁ (Ok (record { nodes = c.node; ordinals = c.ordinal }))
   unfolding reading_answer answer
   reads-accepted c w e =
       let g : GoodWhole s t t₁ (length t / width) c = subst (Whole s t t₁ (length t / width)) e w in

@@ -1,5 +1,5 @@
 -- Nodes as the table has them.
-use Rattle.std.specs.Prelude.{◌≡◌, ℕ, ◌+◌, ◌-◌, ◌*◌, ◌<◌, ◌≤◌, Bool, List, ◌≢◌}
+use Rattle.std.specs.Prelude.{◌≡◌, ℕ, ◌+◌, ◌-◌, ◌*◌, ◌<◌, ◌≤◌, Bool, List, ◌≢◌, Option, IfSome, IfNone}
 use Rattle.std.proofs.lemmas.List.Edits.{sets}
 use Rattle.format.specs.Kind.{has_ordinal}
 use Rattle.format.specs.Tree.{one}
@@ -21,8 +21,7 @@ pub record NodeOpened (t t' : List ℕ) (c : Cursor) (tag : ℕ) (x : Text) (r :
   pub table : t' ≡ sets t (c.node * width) (words (node_of tag (taken (has_ordinal tag) (c.ordinal + 1)) (c.node + 1) x))
   pub cursor : r ≡ record { at = x.next; node = c.node + 1; ordinal = c.ordinal + one (has_ordinal tag); levels = c.levels - 1 }
 
--- a node from one index up to another that carries the ordinal, or the end where none does
-pub record CarrierIn (t : List ℕ) (from to ordinal r : ℕ) : Type 0 where
-  pub inside : r ≤ to
-  pub found : r < to → word_at t r ordinal_word ≡ ordinal
-  pub none : to ≤ r → (i : ℕ) → from ≤ i → i < to → word_at t i ordinal_word ≢ ordinal
+-- a node from one index up to another that carries the ordinal, or none where none does
+pub record CarrierIn (t : List ℕ) (from to ordinal : ℕ) (r : Option ℕ) : Type 0 where
+  pub found : IfSome r (λ i. (i < to) × (word_at t i ordinal_word ≡ ordinal))
+  pub none : IfNone r ((i : ℕ) → from ≤ i → i < to → word_at t i ordinal_word ≢ ordinal)

@@ -1,16 +1,16 @@
 -- What a step of reading answers and leaves in the table, by the definitions of `Read`.
-use Rattle.std.specs.Prelude.{◌≡◌, ℕ, suc, ◌+◌, ◌*◌, ◌<◌, ◌≤◌, Bool, T, List, [], ◌∷◌, ◌++◌, length, drop, nat_lt, slice_index, slice_index_or}
+use Rattle.std.specs.Prelude.{◌≡◌, ℕ, suc, ◌+◌, ◌*◌, ◌<◌, ◌≤◌, Bool, T, List, [], ◌∷◌, ◌++◌, length, drop, nat_lt, slice_index, slice_index_or, Result, Ok, Err}
 use Rattle.std.proofs.lemmas.List.Edits.{sets}
 use Rattle.format.specs.Tree.{leaf, ref, branch, none, pair, nodes, nodes_in, ordinals, ordinals_in}
 use Rattle.format.specs.Syntax.{Key, Value, Values, own}
 use Rattle.format.specs.Keys.{has_key}
 use Rattle.format.specs.Limits.{Terms}
+use Rattle.format.specs.declared.codes.Refusal.{Refusal}
+use Rattle.format.specs.Codes.{number_of}
 use Rattle.format.specs.Answer.{Answer, ok, refused, ◌>>=◌, require}
 use Rattle.format.specs.Read.{Setting, setting, Inner, read_key, read_pairs, read_value, read}
 use Rattle.format.specs.Table.{words, width, word_at, ordinal_word, end_word, flat, key_node, table, table_in, table_of}
 use Rattle.reader.specs.declared.cursor.Cursor.{Cursor}
-use Rattle.reader.specs.declared.cursor.Step.{Step}
-use Rattle.reader.specs.declared.cursor.Gate.{Gate}
 use Rattle.keys.specs.KeyWords.{key_words_at, Held, Chain}
 use Rattle.key_filter.specs.Filter.{Grows}
 use Rattle.reader.specs.declared.seen.Seen.{Seen}
@@ -73,15 +73,14 @@ key_at s capacity container earlier c = read_key (setting_at s capacity) (is_arr
 
 -- ---- the answers of the steps
 
--- the paper's number and values for each case of the enum: the cursor behind a step; "A refusal returns its number and a position"
-abbrev pub step_answer : Step → Answer Cursor
-step_answer (Step.Done c) = ok c
-step_answer (Step.Refused code at) = refused code at
+-- the cursor behind a step, or its refusal
+abbrev pub Step : Type 0
+Step = Result Cursor Refusal
 
--- the same of the checks behind the choice of a kind, the tag standing at an index that the caller knows
-abbrev pub gate_answer : (at : ℕ) → Gate → Answer (Unit {0})
-gate_answer at Gate.Open = ok tt
-gate_answer at (Gate.Shut code) = refused code at
+-- the paper's number and values: "A refusal returns its number and a position"
+abbrev pub step_answer : {A : Type 0} → Result A Refusal → Answer A
+step_answer (Ok x) = ok x
+step_answer (Err r) = refused (number_of r.code) r.at
 
 -- what a step answers where the definition answers `o`: what is good, or the same refusal
 abbrev pub GoodOr : {A B : Type 0} → (B → Type 0) → (o : Answer A) → Answer B → Type 0

@@ -6,15 +6,15 @@ ghost use Rattle.reader.specs.Texts.{is_array_tag};
 ghost use Rattle.reader.specs.KeysSeen.{Walk};
 ghost use Rattle.reader.specs.Steps.{Fit, Earlier, key_at, MeetsKey, Remembers};
 
-use crate::cursor::{Cursor, Step, code_of};
+use crate::cursor::{Cursor, text_at};
 use crate::seen::{Seen, key_seen};
 use crate::table::add_node;
-use format::codes::{KEY_NOT_ALLOWED, KEY_REPEATED, TABLE_FULL, TEXT_UNFIT};
+use format::codes::{Code, Refusal};
 use format::kind::Kind;
 use keys::KeyWords;
-use scanner::Scan;
 
 // Whether a tag may begin a key of a container with this tag.
+#[tactic(auto, unfolding(crate::specs::Texts::is_array_tag))]
 fn key_allowed(tag: u8, container: u8) -> bool
     ensures { result ≡ is_tag_of (key_kinds (is_array_tag container)) tag }
 {
@@ -29,6 +29,7 @@ fn key_allowed(tag: u8, container: u8) -> bool
 }
 
 // A key of the container whose pairs begin at node `first`: 4, then 7, then the text, then 9.
+#[inline(always)]
 pub(crate) fn read_key(
     source: &[u8],
     table: &mut [u64],
@@ -38,7 +39,7 @@ pub(crate) fn read_key(
     first: usize,
     seen: Seen,
     cursor: Cursor,
-) -> Step
+) -> Result<Cursor, Refusal>
     requires fit { Fit source.now table.old capacity cursor }
     requires walk { Walk source.now table.old first cursor.node }
     ensures meets_key { (earlier : List Key)
@@ -51,19 +52,16 @@ pub(crate) fn read_key(
     let at = cursor.at;
     let node = cursor.node;
     if source.len() <= at {
-        return Step::Refused(TEXT_UNFIT, at);
+        return Err(Code::TextUnfit.at(at));
     }
     let tag = source[at];
     if !key_allowed(tag, container) {
-        return Step::Refused(KEY_NOT_ALLOWED, at);
+        return Err(Code::KeyNotAllowed.at(at));
     }
     if capacity <= node {
-        return Step::Refused(TABLE_FULL, at);
+        return Err(Code::TableFull.at(at));
     }
-    let scan = scanner::in_line::key(source, at + 1, tag);
-    let Scan::Is(text) = scan else {
-        return Step::Refused(code_of(scan), at);
-    };
+    let text = text_at(scanner::in_line::key(source, at + 1, tag), at)?;
     let key = KeyWords {
         tag: tag as u64,
         content: text.content,
@@ -71,7 +69,7 @@ pub(crate) fn read_key(
     };
     let of_array = container == Kind::ARRAY;
     if key_seen(of_array, source, table, filter, first, node, key, seen) {
-        return Step::Refused(KEY_REPEATED, at);
+        return Err(Code::KeyRepeated.at(at));
     }
-    Step::Done(add_node(table, cursor, tag, text, false))
+    Ok(add_node(table, cursor, tag, text, false))
 }

@@ -12,8 +12,8 @@ ghost use Rattle.format.specs.Table.{width};
 ghost use Rattle.reader.specs.Promise.{Reads};
 ghost use Rattle.reader.specs.Steps.{Whole};
 
-use crate::cursor::{Cursor, Step};
-use format::codes::{BYTES_BEHIND, SOURCE_TOO_LONG};
+use crate::cursor::Cursor;
+use format::codes::{Code, Refusal};
 use format::limits::{DEPTH_LIMIT, SOURCE_LIMIT};
 use format::table::WIDTH;
 
@@ -22,7 +22,6 @@ mod head;
 mod key;
 mod leaf;
 mod lookup;
-mod root;
 mod seen;
 mod table;
 mod value;
@@ -34,20 +33,25 @@ const LARGER_FROM: usize = 4096;
 
 const LARGE_FROM: usize = 16384;
 
-// What reading answers: the nodes written and the ordinals taken, or a refusal's number and position.
-#[derive(Clone, Copy)]
-pub enum Reading {
-    Accepted { nodes: usize, ordinals: usize },
-    Refused { code: u8, at: usize },
+// What a plan read counts: the nodes written and the ordinals taken.
+#[derive(Clone, Copy, Debug, PartialEq, Eq)]
+pub struct Counts {
+    pub nodes: usize,
+    pub ordinals: usize,
 }
 
 // A whole plan; a refusal leaves the table as it falls.
-fn read_whole(source: &[u8], table: &mut [u64], filter: &mut [u64], capacity: usize) -> Step
+fn read_whole(
+    source: &[u8],
+    table: &mut [u64],
+    filter: &mut [u64],
+    capacity: usize,
+) -> Result<Cursor, Refusal>
     requires { capacity * width ≤ length table.old }
     ensures { Whole source.now table.old table.new capacity result }
 {
     if SOURCE_LIMIT < source.len() {
-        return Step::Refused(SOURCE_TOO_LONG, 0);
+        return Err(Code::SourceTooLong.at(0));
     }
     let start = Cursor {
         at: 0,
@@ -55,82 +59,56 @@ fn read_whole(source: &[u8], table: &mut [u64], filter: &mut [u64], capacity: us
         ordinal: 0,
         levels: DEPTH_LIMIT,
     };
-    let step = root::read_root(source, table, filter, capacity, start);
-    let Step::Done(end) = step else {
-        return step;
-    };
-    let at = end.at;
-    if at < source.len() {
-        return Step::Refused(BYTES_BEHIND, at);
+    let end = value::read_value(source, table, filter, capacity, start)?;
+    if end.at < source.len() {
+        return Err(Code::BytesBehind.at(end.at));
     }
-    step
+    Ok(end)
 }
 
-// A short plan: its keys are few, so each is looked for among the pairs, and there is no filter.
-fn read_unfiltered(source: &[u8], table: &mut [u64], capacity: usize) -> Step
-    requires { capacity * width ≤ length table.old }
+// A plan with a filter of so many words; none for a short plan, whose keys are few, so that each is looked for among the pairs.
+fn read_with<const N: usize>(
+    source: &[u8],
+    table: &mut [u64],
+    capacity: usize,
+) -> Result<Cursor, Refusal>
+    requires { (capacity * width ≤ length table.old) × (N ≤ 4096) }
     ensures { Whole source.now table.old table.new capacity result }
 {
-    let mut filter = [0u64; 1];
-    read_whole(source, table, &mut filter[..0], capacity)
-}
-
-// A plan with a filter of so many words.
-fn read_with_128(source: &[u8], table: &mut [u64], capacity: usize) -> Step
-    requires { capacity * width ≤ length table.old }
-    ensures { Whole source.now table.old table.new capacity result }
-{
-    let mut filter = [0u64; 128];
-    read_whole(source, table, &mut filter, capacity)
-}
-
-fn read_with_1024(source: &[u8], table: &mut [u64], capacity: usize) -> Step
-    requires { capacity * width ≤ length table.old }
-    ensures { Whole source.now table.old table.new capacity result }
-{
-    let mut filter = [0u64; 1024];
-    read_whole(source, table, &mut filter, capacity)
-}
-
-fn read_with_4096(source: &[u8], table: &mut [u64], capacity: usize) -> Step
-    requires { capacity * width ≤ length table.old }
-    ensures { Whole source.now table.old table.new capacity result }
-{
-    let mut filter = [0u64; 4096];
+    let mut filter = [0u64; N];
     read_whole(source, table, &mut filter, capacity)
 }
 
 // A plan with as large a filter as its length asks for: a word for 32 bytes at least, so that a new key is seldom taken for marked.
-fn read_by_length(source: &[u8], table: &mut [u64], capacity: usize) -> Step
+fn read_by_length(source: &[u8], table: &mut [u64], capacity: usize) -> Result<Cursor, Refusal>
     requires { capacity * width ≤ length table.old }
     ensures { Whole source.now table.old table.new capacity result }
 {
     if source.len() < FILTER_FROM {
-        return read_unfiltered(source, table, capacity);
+        return read_with::<0>(source, table, capacity);
     }
     if source.len() < LARGER_FROM {
-        return read_with_128(source, table, capacity);
+        return read_with::<128>(source, table, capacity);
     }
     if source.len() < LARGE_FROM {
-        return read_with_1024(source, table, capacity);
+        return read_with::<1024>(source, table, capacity);
     }
-    read_with_4096(source, table, capacity)
+    read_with::<4096>(source, table, capacity)
 }
 
 // Reads a plan into the table; a refusal makes every word of it zero.
-pub fn read(source: &[u8], table: &mut [u64]) -> Reading
+pub fn read(source: &[u8], table: &mut [u64]) -> Result<Counts, Refusal>
     ensures { Reads source.now table.old table.new result }
 {
     let capacity = table.len() / WIDTH;
-    let step = read_by_length(source, table, capacity);
-    match step {
-        Step::Refused(code, at) => {
-            tables::clear(table);
-            Reading::Refused { code, at }
-        }
-        Step::Done(end) => Reading::Accepted {
+    match read_by_length(source, table, capacity) {
+        Ok(end) => Ok(Counts {
             nodes: end.node,
             ordinals: end.ordinal,
-        },
+        }),
+        Err(refusal) => {
+            tables::clear(table);
+            Err(refusal)
+        }
     }
 }

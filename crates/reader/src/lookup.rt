@@ -5,19 +5,12 @@ ghost use Rattle.reader.specs.Nodes.{CarrierIn};
 
 use format::table::{ORDINAL, WIDTH};
 
-// The first node from one index up to another that carries the ordinal, or the end.
-fn scan(table: &[u64], from: usize, to: usize, ordinal: u64) -> usize
+// The first node from one index up to another that carries the ordinal.
+fn scan(table: &[u64], from: usize, to: usize, ordinal: u64) -> Option<usize>
     requires { (from ≤ to) × (to * width ≤ length table.now) }
     ensures { CarrierIn table.now from to ordinal result }
 {
-    let mut i = from;
-    while i < to {
-        if table[i * WIDTH + ORDINAL] == ordinal {
-            return i;
-        }
-        i += 1;
-    }
-    i
+    (from..to).find(|i| table[*i * WIDTH + ORDINAL] == ordinal)
 }
 
 // Where to begin: each value but the plan's own has its key before it, so two nodes at least stand before it for each earlier ordinal. Only the time rests
@@ -32,19 +25,11 @@ fn hint(nodes: usize, ordinal: u64) -> usize
     (2 * (ordinal - 1)) as usize
 }
 
-// The index of a node that carries the ordinal, of so many, or their count.
-pub(crate) fn node_of(table: &[u64], nodes: usize, ordinal: u64) -> usize
+// A node, of so many, that carries the ordinal.
+pub(crate) fn node_of(table: &[u64], nodes: usize, ordinal: u64) -> Option<usize>
     requires { (nodes * width ≤ length table.now) × (0 < ordinal) }
     ensures { CarrierIn table.now 0 nodes ordinal result }
 {
     let from = hint(nodes, ordinal);
-    let later = scan(table, from, nodes, ordinal);
-    if later < nodes {
-        return later;
-    }
-    let earlier = scan(table, 0, from, ordinal);
-    if earlier < from {
-        return earlier;
-    }
-    nodes
+    scan(table, from, nodes, ordinal).or_else(|| scan(table, 0, from, ordinal))
 }

@@ -1,4 +1,4 @@
-// The node table: six words to a node.
+// The node table: six words to a node, and nodes named by index. It is lent by C as words, so it is no array of structs.
 ghost use Rattle.std.specs.Prelude.{◌≡◌, ◌+◌, ◌*◌, ◌≤◌, [], ◌∷◌, length};
 ghost use Rattle.std.proofs.lemmas.List.Edits.{sets};
 ghost use Rattle.format.specs.Table.{width, end_word, words};

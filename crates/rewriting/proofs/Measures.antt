@@ -1,4 +1,4 @@
--- How long an edited text can be: no index overflows. Assumes nothing.
+-- How long an edited text can be: no longer than an index can say. Assumes nothing.
 use Prim.Native.Nat.{ℕ, suc, ◌+◌, ◌-◌, ◌*◌, ◌/◌, ◌%◌, ◌≤◌, ◌<◌}
 use native.Mathlib.Omega.{arith}
 use mathlib.Core.Path.{◌≡◌, refl, ap, ◌∙◌}
@@ -23,10 +23,10 @@ use Rattle.tokens.proofs.Stretches.{Prefix, between-prefix, between_stretch}
 use Rattle.rewriting.specs.declared.rewrite.Change.{Change}
 use Rattle.rewriting.specs.declared.splice.Renumbering.{Renumbering}
 use Rattle.rewriting.specs.declared.splice.Splice.{Splice}
-use Rattle.rewriting.specs.Output.{Within}
+use Rattle.rewriting.specs.Output.{index_limit}
 use Rattle.rewriting.specs.Rewriting.{is_renumbered, new_number, renumbered_token, changed_token, changed_text, rewritten_text}
 use Rattle.rewriting.specs.Rewriting.{renumbered_between}
-use Rattle.rewriting.specs.Edited.{canonical_text, spliced_head, spliced_text, stands, Spliceable, Parted}
+use Rattle.rewriting.specs.Edited.{canonical_text, spliced_head, spliced_text, stands, Parted}
 use Rattle.rewriting.proofs.Respelled.{renumbered-by}
 use Rattle.rewriting.proofs.Anywhere.{renumbered_anywhere}
 use Rattle.rewriting.proofs.SplicedTexts.{Room, room_of}
@@ -251,11 +251,8 @@ module _ (s key value : List ℕ) (p : Splice) where
           between-length s p.to (length s),
         )
 
-    pub spliceable : length s ≤ source_limit → length key ≤ source_limit → length value ≤ source_limit → Spliceable s key value p
-    spliceable h i j = record {
-      stands = e;
-      within = record { low = omega (arith, spliced_most) };
-    }
+    pub spliced-index : length s ≤ source_limit → length key ≤ source_limit → length value ≤ source_limit → length (spliced_text s key value p) ≤ index_limit
+    spliced-index h i j = omega (arith, spliced_most)
 
     -- between tokens, where no reference rises by more than one
     pub parted-most : Parted s p → m.up ≤ 1 → 4 * length (spliced_text s key value p) ≤ 5 * length s + 4 * length key + 4 * length value + 36
@@ -282,6 +279,3 @@ module _ (s key value : List ℕ) (p : Splice) where
 -- a canonical text is never longer than its source
 pub canonical-text-most : (t s : List ℕ) → length (canonical_text t s) ≤ length s
 canonical-text-most t s = omega (arith, between-most shrinks t 0 s 0 (length s), between-length s 0 (length s))
-
-pub canonical-within : (t s : List ℕ) → length s ≤ source_limit → Within (canonical_text t s) 0
-canonical-within t s h = record { low = omega (arith, canonical-text-most t s) }

@@ -4,11 +4,13 @@ use native.Mathlib.Nat.{pow-succ'}
 use native.Mathlib.Numerals.{add-one}
 use native.Mathlib.Omega.{arith}
 use mathlib.Core.Path.{◌≡◌, refl, sym, ap, ◌∙◌}
-use mathlib.Core.Bool.{true}
+use mathlib.Core.Bool.{Bool, true, false}
 use mathlib.Core.List.{List, [], ◌∷◌, ◌++◌}
 use lib.Dec.{eqb, lit<}
 use lib.ListN.{length, get_or, take, drop, length-append, length-drop, take-append-drop}
 use lib.Seq.{drop-cons, drop-drop}
+use Rattle.std.specs.Prelude.{Option, IfSome}
+use Rattle.std.specs.Bool.{then_some}
 use Rattle.decimal.specs.Digits.{digits_of, value, decimal, spelled}
 use Rattle.decimal.specs.Promise.{RunAt}
 use Rattle.decimal.specs.declared.Run.{Run}
@@ -30,6 +32,11 @@ use Rattle.rewriting.specs.Rewriting.{changed_token, changed_text, rewritten_tex
 use Rattle.rewriting.specs.Stretches.{TagAt, Passes}
 use Rattle.rewriting.proofs.Respelled.{token-bytes}
 use Rattle.rewriting.proofs.Staying.{no-zeros, front_of}
+
+-- a place behind a token that is given under a test
+pub if-passed : {s : List ℕ} {at next : ℕ} {b : Bool} {r : Option ℕ} → r ≡ then_some b next → (b ≡ true → Passes s at next) → IfSome r (Passes s at)
+if-passed {b = true} e p = rw e (p refl)
+if-passed {b = false} e p = rw e tt
 
 -- a token that no change changes
 passes-token : (s : List ℕ) (at : ℕ) (t : Token) (next : ℕ) → drop at s ≡ write_token t (drop next s) → next ≤ length s → TokenFits t
@@ -62,7 +69,8 @@ module _ (s : List ℕ) (at b c : ℕ) (t : TagAt s at b) (l : c < 256) (e : eqb
       two = omega arith
 
 pub plain-null : (s : List ℕ) (at : ℕ) → TagAt s at (byte "N") → eqb (byte_at s (at + 1)) (byte ";") ≡ true → Passes s at (at + 2)
-plain-null s at t e = passes-token s at (scalar null) (at + 2) (tagged s at 78 59 t (lit< tt) e) (omega (arith, byte-there s (at + 1) 59 (lit< tt) e)) tt same (λ i. refl)
+plain-null s at t e =
+    passes-token s at (scalar null) (at + 2) (tagged s at 78 59 t (lit< tt) e) (omega (arith, byte-there s (at + 1) 59 (lit< tt) e)) tt same (λ i. refl)
   where
     same : (c : Change) (g : ℕ) → changed_token c g (scalar null) ≡ scalar null
     same Change.Canonical g = refl
@@ -85,9 +93,6 @@ few-digits (suc k) n h = by (order n 10) (λ i. few-digits k (n / 10) i)
 
 module _ (s : List ℕ) (at : ℕ) (t : TagAt s at (byte "i")) (colon : eqb (byte_at s (at + 1)) (byte ":") ≡ true) (run : Run) (r : RunAt s (at + 2) 0 run) where
   module _ (some : at + 2 < run.next) (few : run.next - (at + 2) ≤ 18) (stop : eqb (byte_at s run.next) (byte ";") ≡ true) where
-    pub inside-int : at + 4 ≤ length s
-    inside-int = omega (arith, some, byte-there s run.next 59 (lit< tt) stop)
-
     pub plain_int : ShortestFront (get_or s (at + 2) 0) (get_or s (at + 3) 0) → Passes s at (run.next + 1)
     plain_int f =
         passes-token s at (scalar (int i)) (run.next + 1) (written_with 0 digits-are-shortest)
@@ -130,7 +135,7 @@ module _ (s : List ℕ) (at : ℕ) (t : TagAt s at (byte "i")) (colon : eqb (byt
 
 pub plain_float : (s : List ℕ) (at : ℕ) → TagAt s at (byte "d") → eqb (byte_at s (at + 1)) (byte ":") ≡ true → {end : ℕ} → PlainEnd s (at + 2) end
     → Passes s at (end + 1)
-plain_float s at t colon {end} p = passes-token s at (scalar (float text)) (end + 1) written (omega (arith, p.inside)) (T_of p.float) same (λ i. refl)
+plain_float s at t colon {end} p = passes-token s at (scalar (float text)) (end + 1) written (omega (arith, p.semicolon.inside)) (T_of p.float) same (λ i. refl)
   where
     text : List ℕ
     text = take (end - (at + 2)) (drop (at + 2) s)
@@ -141,7 +146,7 @@ plain_float s at t colon {end} p = passes-token s at (scalar (float text)) (end 
     behind : drop (end - (at + 2)) (drop (at + 2) s) ≡ 59 ∷ drop (end + 1) s
     behind =
         drop-drop (end - (at + 2)) (at + 2) s ∙ ap (λ (k : ℕ). drop k s) there
-        ∙ drop-cons s end 0 p.inside ∙ ap {B = List ℕ} (λ b. b ∷ drop (suc end) s) (p.semicolon.stop p.inside)
+        ∙ drop-cons s end 0 p.semicolon.inside ∙ ap {B = List ℕ} (λ b. b ∷ drop (suc end) s) p.semicolon.stop
         ∙ ap (λ (k : ℕ). 59 ∷ drop k s) (sym (add-one end))
 
     written : drop at s ≡ 100 ∷ 58 ∷ text ++ (59 ∷ drop (end + 1) s)

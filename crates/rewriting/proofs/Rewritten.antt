@@ -1,18 +1,18 @@
 -- Stretches that stay, and tokens written again between them. Assumes nothing.
-use Prim.Native.Nat.{ℕ, ◌+◌, ◌-◌, ◌≤◌, ◌<◌}
+use Prim.Native.Nat.{ℕ, ◌+◌, ◌-◌, ◌≤◌, ◌<◌, min}
 use native.Mathlib.Numerals.{add-one}
 use native.Mathlib.Omega.{arith}
-use mathlib.Core.Path.{◌≡◌, sym, ap, ◌∙◌, subst}
+use mathlib.Core.Path.{◌≡◌, refl, sym, ap, ◌∙◌, subst}
 use mathlib.Core.Bool.{Bool, true, false}
 use mathlib.Core.List.{List, [], ◌++◌, append_assoc}
-use lib.ListN.{length, get_or, drop}
-use borrow.Author.Tests.{ne_eqb}
-use Rattle.format.specs.Bytes.{byte}
-use Rattle.format.specs.Tree.{one}
+use lib.ListN.{length, take, drop}
+use Rattle.decimal.proofs.Decide.{Order, below, above, order}
+use Rattle.std.specs.Prelude.{Err}
+use Rattle.format.specs.declared.codes.Code.{Code}
+use Rattle.format.specs.Codes.{number_of}
 use lib.Seq.{slice, slice_empty}
 use Rattle.scanner.specs.declared.Text.{Text}
-use Rattle.scanner.specs.declared.Scan.{Scan}
-use Rattle.scanner.specs.Scans.{Found, Scans}
+use Rattle.scanner.specs.Scans.{Scan, Found, Scans}
 use Rattle.scanner.proofs.Numbers.{unfit-of}
 use Rattle.format.specs.Table.{word_at, tag_word}
 use Rattle.tokens.specs.Tokens.{Token, scalar, reference, opening, closing, read_token, token_told, write_token, node_behind, closes_of}
@@ -21,22 +21,16 @@ use Rattle.tokens.proofs.TokenLaws.{token-front}
 use Rattle.tokens.proofs.Standing.{Stands, found-stands}
 use Rattle.tokens.proofs.Stretches.{between_more, between-end, between-outside, between-unfit}
 use Rattle.rewriting.specs.declared.rewrite.Change.{Change}
+use Rattle.rewriting.specs.declared.output.Output.{Output}
 use Rattle.rewriting.specs.declared.stretch.Stop.{Stop}
-use Rattle.rewriting.specs.Output.{Within, Puts}
-use Rattle.rewriting.specs.Shortest.{Bounds}
+use Rattle.rewriting.specs.Output.{Appends}
+use Rattle.rewriting.specs.Shortest.{Bounds, Respells}
 use Rattle.rewriting.specs.Rewriting.{ChangeFits, Named, respelled_text, changed_token, changed_text, rewritten_text}
 use Rattle.rewriting.specs.Stretches.{Changes, Stays, Passes, node_next, Keeps, Halts, Ends, Stops, halted, ended}
-use Rattle.rewriting.proofs.Outputs.{within_as, puts_as, Owes, owes-all, owes-none, owes-within, owes_more, slice_join}
+use Rattle.rewriting.proofs.Outputs.{appends_part, Owes, owes-all, owes_as, owes-last, owes_more, slice_join}
 use Rattle.rewriting.proofs.Respelled.{changed-is, bounds, first_of, named}
 
 -- ---- nodes
-
-module _ (s : List ℕ) (at node : ℕ) where
-  pub brace_next : get_or s at 0 ≡ byte "}" → node ≡ node_next s at node
-  brace_next e = omega (arith, ap closes_of e)
-
-  pub token-next : (get_or s at 0 ≡ byte "}" → ⊥) → node + 1 ≡ node_next s at node
-  token-next n = omega (arith, ap one (ne_eqb (get_or s at 0) 125 n))
 
 -- the next node behind what is found there
 module _ (s : List ℕ) (at node : ℕ) (x : Text) (f : Found read_token (token_told at) s at x) where
@@ -67,14 +61,6 @@ module _ (c : Change) (t s : List ℕ) (at to node : ℕ) where
 pub stays_as : {c : Change} {g g' : ℕ} {s : List ℕ} {at : ℕ} {x : Text} {r : Bool} → g ≡ g' → Stays c g s at x r → Stays c g' s at x r
 stays_as {c} {s = s} {at} {x} {r} e k = subst (λ (g : ℕ). Stays c g s at x r) e k
 
-pub keeps-none : (c : Change) (t s : List ℕ) (first from to : ℕ) → from ≤ length s → first ≤ from → Keeps c t s first from to from first
-keeps-none c t s first from to h i = record {
-  on = omega arith;
-  inside = h;
-  low = i;
-  split = sym (ap (λ (l : List ℕ). l ++ rewritten_text c t first s from to) (slice_empty from s));
-}
-
 module _ {c : Change} {t s : List ℕ} {first from to at node : ℕ} (k : Keeps c t s first from to at node) where
   -- it goes on to an index and a node
   keeps_on : (next more : ℕ) → at ≤ next → next ≤ length s → more ≤ next
@@ -100,8 +86,8 @@ module _ {c : Change} {t s : List ℕ} {first from to at node : ℕ} (k : Keeps 
   pub ends_there : to ≤ at → Ends c t s to at node
   ends_there h = record { none = ap (changed_text c t node) (between-end s at to h) }
 
-  pub ends-unfit : {scan : Scan} {n : ℕ} → Scans read_token (token_told at) s at scan → scan ≡ Scan.Not n → Ends c t s to at node
-  ends-unfit {n = n} g e = record { none = ap (changed_text c t node) (between-unfit s at to n 0 (unfit-of g e 0)) }
+  pub ends-unfit : {scan : Scan} {n : Code} → Scans read_token (token_told at) s at scan → scan ≡ Err n → Ends c t s to at node
+  ends-unfit {n = n} g e = record { none = ap (changed_text c t node) (between-unfit s at to (number_of n) 0 (unfit-of g e 0)) }
 
   -- one token more
   module _ (h : at < to) {x : Text} (f : Found read_token (token_told at) s at x) {r : Bool} (stays : Stays c (word_at t node tag_word) s at x r) where
@@ -154,61 +140,82 @@ module _ {c : Change} {t s : List ℕ} {first from to : ℕ} where
 
 -- ---- stretches, with a token written again behind each but the last
 
--- what is left to write from an index and a node on, with what was written, is the rewritten text
-pub record Rewriting (t s : List ℕ) (first from to : ℕ) (c : Change) (w₀ : ℕ) (out₀ : List ℕ) (kept node w : ℕ) (out : List ℕ) : Type 0 where
-  pub inside : kept ≤ length s
-  pub low : node ≤ kept
-  pub owes : Owes (rewritten_text c t first s from to) w₀ out₀ (rewritten_text c t node s kept to) w out
+-- what is left to write: the bytes from an index on up to another, and what comes from there and a node on
+abbrev Left : (c : Change) (t s : List ℕ) (to kept behind node : ℕ) → List ℕ
+Left c t s to kept behind node = slice kept behind s ++ rewritten_text c t node s behind to
 
-pub rewriting_none : (t s : List ℕ) (first from to : ℕ) (c : Change) (w : ℕ) (out : List ℕ) → from ≤ length s → first ≤ from
-    → Rewriting t s first from to c w out from first w out
-rewriting_none t s first from to c w out h i = record { inside = h; low = i; owes = owes-all (rewritten_text c t first s from to) w out }
+-- that, behind what was written, is the rewritten text
+pub record Rewriting (t s : List ℕ) (from to : ℕ) (c : Change) (o₀ : Output) (kept behind node : ℕ) (o : Output) : Type 0 where
+  pub on : kept ≤ behind
+  pub inside : behind ≤ length s
+  pub low : node ≤ behind
+  pub owes : Owes (rewritten_text c t 0 s from to) o₀ (Left c t s to kept behind node) o
 
 -- outside of the source there is nothing to write
-pub nothing-outside : (t s : List ℕ) (first from to : ℕ) (c : Change) (w : ℕ) (out : List ℕ) → length s ≤ from
-    → Puts (rewritten_text c t first s from to) w out w out
-nothing-outside t s first from to c w out h =
-    owes-none (owes-all (rewritten_text c t first s from to) w out) (ap (changed_text c t first) (between-outside s from to h))
+pub rewriting-none : (t s : List ℕ) (from to : ℕ) (c : Change) (o : Output) {kept : ℕ} → kept ≡ min from (length s) → Rewriting t s from to c o kept kept 0 o
+rewriting-none t s from to c o {kept} e = record {
+  on = omega arith;
+  inside = omega arith;
+  low = omega arith;
+  owes = owes-all (by (order from (length s)) ∙ sym (ap (λ (l : List ℕ). l ++ rewritten_text c t 0 s kept to) (slice_empty kept s)));
+}
+  where
+    by : Order from (length s) → rewritten_text c t 0 s from to ≡ rewritten_text c t 0 s kept to
+    by (below h) = ap (λ (i : ℕ). rewritten_text c t 0 s i to) (omega arith)
+    by (above h) = ap (changed_text c t 0) (between-outside s from to h ∙ sym (between-outside s kept to (omega arith)))
 
-module _ {t s : List ℕ} {first from to : ℕ} {c : Change} {w₀ : ℕ} {out₀ : List ℕ} {kept next w : ℕ} {out : List ℕ}
-    (r : Rewriting t s first from to c w₀ out₀ kept next w out) {at node : ℕ} (k : Keeps c t s next kept to at node) where
-  abbrev all : List ℕ
-  all = rewritten_text c t first s from to
+module _ {t s : List ℕ} {from to : ℕ} {c : Change} {o₀ : Output} {kept behind next : ℕ} {o : Output}
+    (r : Rewriting t s from to c o₀ kept behind next o) {at node : ℕ} (k : Keeps c t s next behind to at node) where
+  -- the stretch stays
+  stretched : Owes (rewritten_text c t 0 s from to) o₀ (Left c t s to kept at node) o
+  stretched = owes_as r.owes
+      (ap (λ (l : List ℕ). slice kept behind s ++ l) k.split ∙ sym (append_assoc (slice kept behind s) (slice behind at s) (rewritten_text c t node s at to))
+      ∙ ap (λ (l : List ℕ). l ++ rewritten_text c t node s at to) (slice_join kept behind at s r.on k.on k.inside))
 
-  pub stretch_bounds : Within (rewritten_text c t first s from to) w₀ → (kept ≤ at) × (at ≤ length s) × Within (slice kept at s) w
-  stretch_bounds a = (k.on, k.inside, owes-within r.owes (slice kept at s) (rewritten_text c t node s at to) k.split a)
+  pub rewriting_all : Ends c t s to at node → {o₁ : Output} → Appends (take (at - kept) (drop kept s)) o o₁
+      → Appends (rewritten_text c t 0 s from to) o₀ o₁
+  rewriting_all n p = owes-last stretched (ap (λ (l : List ℕ). slice kept at s ++ l) n.none) (appends_part s kept at p)
 
-  module _ {e : ℕ} {out₁ : List ℕ} (p : Puts (slice kept at s) w out e out₁) (l : length out₁ ≡ length out) where
-    behind : Owes all w₀ out₀ (rewritten_text c t node s at to) e out₁
-    behind = owes_more r.owes (rewritten_text c t node s at to) k.split p l
+  module _ {x : Text} (h : Halts c s to at x) where
+    st : Stands s at h.found.what x
+    st = found-stands s at x h.found
 
-    pub rewriting_all : Ends c t s to at node → Puts (rewritten_text c t first s from to) w₀ out₀ e out₁
-    rewriting_all n = owes-none behind n.none
+    -- behind its tag and its colon
+    pub numbered-on : at + 2 ≤ x.next
+    numbered-on = (bounds s at x h.found.what st).more h.changes.number
 
-    module _ {x : Text} (h : Halts c s to at x) where
-      abbrev g : ℕ
-      g = word_at t node tag_word
+    pub rewriting_more : {o₁ : Output} → Appends (take (at + 2 - kept) (drop kept s)) o o₁ → {tag : ℕ} → tag ≡ word_at t node tag_word
+        → {later : ℕ} {o₂ : Output} → Respells (respelled_text c tag s at x) s at x.next o₁ later o₂
+        → {after : ℕ} → after ≡ node_next s at node → Rewriting t s from to c o₀ later x.next after o₂
+    rewriting_more p {tag} i {later} q {after} j = record {
+      on = q.inside;
+      inside = h.found.inside;
+      low = omega (arith, j, k.low, h.found.on);
+      owes = owes_more (owes_more stretched split (appends_part s kept (at + 2) p)) refl q.wrote;
+    }
+      where
+        g : ℕ
+        g = word_at t node tag_word
 
-      more : rewritten_text c t node s at to ≡ respelled_text c g s at x ++ rewritten_text c t (node_next s at node) s x.next to
-      more = rewritten_more c t s at to node x h.before h.found
+        rest : List ℕ
+        rest = rewritten_text c t after s x.next to
 
-      pub token-bounds : {tag : ℕ} → tag ≡ word_at t node tag_word → ChangeFits c → Within (rewritten_text c t first s from to) w₀
-          → ChangeFits c × Bounds s at x × Named s at x × Changes c s at x × Within (respelled_text c tag s at x) e
-      token-bounds i sound a =
-          let st : Stands s at h.found.what x = found-stands s at x h.found in (
-            sound,
-            bounds s at x h.found.what st,
-            named s at x h.found.what st,
-            h.changes,
-            within_as (ap (λ (b : ℕ). respelled_text c b s at x) (sym i))
-                (owes-within behind (respelled_text c g s at x) (rewritten_text c t (node_next s at node) s x.next to) more a),
-          )
+        token : rewritten_text c t node s at to ≡ slice at (at + 2) s ++ (q.numbers ++ (slice later x.next s ++ rest))
+        token =
+            rewritten_more c t s at to node x h.before h.found
+            ∙ ap (λ (n : ℕ). respelled_text c g s at x ++ rewritten_text c t n s x.next to) (sym j)
+            ∙ ap (λ (b : ℕ). respelled_text c b s at x ++ rest) (sym i)
+            ∙ ap (λ (l : List ℕ). l ++ rest) q.split
+            ∙ append_assoc (slice at (at + 2) s) (q.numbers ++ slice later x.next s) rest
+            ∙ ap (λ (l : List ℕ). slice at (at + 2) s ++ l) (append_assoc q.numbers (slice later x.next s) rest)
 
-      pub rewriting_more : {tag : ℕ} → tag ≡ word_at t node tag_word → {e₂ : ℕ} {out₂ : List ℕ} → Puts (respelled_text c tag s at x) e out₁ e₂ out₂
-          → length out₂ ≡ length out₁ → {later : ℕ} → later ≡ node_next s at node → Rewriting t s first from to c w₀ out₀ x.next later e₂ out₂
-      rewriting_more i {e₂} {out₂} q m {later} j = record {
-        inside = h.found.inside;
-        low = omega (arith, j, k.low, h.found.on);
-        owes = subst (λ (n : ℕ). Owes all w₀ out₀ (rewritten_text c t n s x.next to) e₂ out₂) (sym j)
-            (owes_more behind (rewritten_text c t (node_next s at node) s x.next to) more (puts_as (ap (λ (b : ℕ). respelled_text c b s at x) (sym i)) q) m);
-      }
+        split : Left c t s to kept at node ≡ slice kept (at + 2) s ++ (q.numbers ++ (slice later x.next s ++ rest))
+        split =
+            ap (λ (l : List ℕ). slice kept at s ++ l) token
+            ∙ sym (append_assoc (slice kept at s) (slice at (at + 2) s) (q.numbers ++ (slice later x.next s ++ rest)))
+            ∙ ap (λ (l : List ℕ). l ++ (q.numbers ++ (slice later x.next s ++ rest)))
+            (slice_join kept at (at + 2) s (omega (arith, r.on, k.on)) (omega arith) (omega (arith, numbered-on, h.found.inside)))
+
+    -- what is known of it
+    pub token-bounds : ChangeFits c → ChangeFits c × Bounds s at x × Named s at x × Changes c s at x
+    token-bounds sound = (sound, bounds s at x h.found.what st, named s at x h.found.what st, h.changes)

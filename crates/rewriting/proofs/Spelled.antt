@@ -1,14 +1,15 @@
 -- A token's shortest text, and its text with a reference renumbered, by its tag. Assumes nothing.
-use Prim.Native.Nat.{ℕ, ◌+◌, ◌-◌, ◌≤◌, ◌<◌}
+use Prim.Native.Nat.{ℕ, ◌+◌, ◌-◌, ◌≤◌}
 use native.Mathlib.Omega.{arith}
-use mathlib.Core.Path.{◌≡◌, refl, ap, ap₂}
+use mathlib.Core.Path.{◌≡◌, refl, sym, ap, ap₂, ◌∙◌}
 use mathlib.Core.Logic.{inl, inr, ⊎_elim}
 use mathlib.Core.Bool.{Bool, true, false, not, ◌&&◌}
-use mathlib.Core.List.{List, [], ◌∷◌}
+use mathlib.Core.List.{List, [], ◌∷◌, ◌++◌, append_assoc, append-nil}
 use lib.Dec.{eqb, leb, leb→le}
-use lib.ListN.{get_or}
-use lib.Seq.{slice}
-use borrow.Author.Tests.{ne_eqb, eq-eqb, le-leb, lt-leb}
+use lib.ListN.{length, get_or}
+use lib.Seq.{slice, slice_empty}
+use borrow.Author.Tests.{ne_eqb}
+use Rattle.decimal.specs.Digits.{decimal}
 use Rattle.decimal.proofs.Decide.{T_of, and_right}
 use Rattle.format.specs.Kind.{Kind, tag, is_tag_of}
 use Rattle.scanner.specs.declared.Text.{Text}
@@ -16,7 +17,10 @@ use Rattle.tokens.specs.Tokens.{ReferenceTag}
 use Rattle.rewriting.specs.Rewriting.{is_renumbered, new_number, renumbered_if, renumbered_text, respelled_text}
 use Rattle.rewriting.specs.declared.rewrite.Change.{Change}
 use Rattle.rewriting.specs.declared.splice.Renumbering.{Renumbering}
-use Rattle.rewriting.specs.Shortest.{numbered_text, shortest_signed, object_head_text, shortest_by, shortest_text, Bounds}
+use Rattle.rewriting.specs.declared.output.Output.{Output}
+use Rattle.rewriting.specs.Output.{Appends}
+use Rattle.rewriting.proofs.Outputs.{slice_join}
+use Rattle.rewriting.specs.Shortest.{Respells, numbered_text, shortest_signed, object_head_text, shortest_by, shortest_text}
 
 module _ (s : List ℕ) (at : ℕ) (x : Text) where
   pub int-text : get_or s at 0 ≡ tag Kind.int → shortest_text s at x ≡ shortest_signed s at x.content x.next
@@ -34,6 +38,19 @@ module _ (s : List ℕ) (at : ℕ) (x : Text) where
   pub object-text : get_or s at 0 ≡ tag Kind.object → shortest_text s at x ≡ object_head_text s at x
   unfolding shortest_text
   object-text i = rw i
+
+  -- what is written between its tag and the bytes that stay
+  pub object-parts : get_or s at 0 ≡ tag Kind.object
+      → shortest_text s at x
+      ≡ slice at (at + 2) s ++ ((decimal x.size ++ (slice (x.content - 2) (x.content + x.size + 2) s ++ decimal x.link)) ++ slice (x.next - 2) x.next s)
+  object-parts i =
+      let front : List ℕ = slice at (at + 2) s in
+      let name : List ℕ = slice (x.content - 2) (x.content + x.size + 2) s in
+      let tail : List ℕ = slice (x.next - 2) x.next s in
+      object-text i
+      ∙ append_assoc front (decimal x.size ++ name) (decimal x.link ++ tail)
+      ∙ ap (λ (l : List ℕ). front ++ l) (sym (append_assoc (decimal x.size ++ name) (decimal x.link) tail)
+      ∙ ap (λ (l : List ℕ). l ++ tail) (append_assoc (decimal x.size) name (decimal x.link)))
 
   pub reference-text : ReferenceTag (get_or s at 0) → shortest_text s at x ≡ numbered_text s at x.content (x.next - 1) x.next
   unfolding shortest_text
@@ -54,32 +71,28 @@ module _ (s : List ℕ) (at : ℕ) (x : Text) where
         ne_eqb (get_or s at 0) 82 (λ i. n₅ (inl i)),
       )
 
+-- all of it stays
+pub copies : {s : List ℕ} {at next : ℕ} {all : List ℕ} {o o' : Output} → all ≡ slice at next s → at + 2 ≤ next → next ≤ length s
+    → Appends (slice (at + 2) next s) o o' → Respells all s at next o next o'
+copies {s} {at} {next} e h i p = record {
+  numbers = slice (at + 2) next s;
+  wrote = p;
+  split =
+      e ∙ sym (slice_join at (at + 2) next s (omega arith) h i)
+      ∙ ap (λ (l : List ℕ). slice at (at + 2) s ++ l)
+      (sym (append-nil (slice (at + 2) next s)) ∙ ap (λ (l : List ℕ). slice (at + 2) next s ++ l) (sym (slice_empty next s)));
+  inside = omega arith;
+}
+
 -- ---- renumbered
 
 referring : (b : ℕ) → ReferenceTag b → is_tag_of (Kind.object_reference ∷ Kind.variable_reference ∷ []) b ≡ true
 referring b o = ⊎_elim (λ i. rw i) (λ i. rw i) o
 
-module _ (m : Renumbering) (n : ℕ) where
-  pub moved : (m.down ≡ m.up → ⊥) → m.from ≤ n → is_renumbered m n ≡ true
-  unfolding is_renumbered
-  moved e h = rw (ne_eqb m.down m.up e, le-leb m.from n h)
-
-  pub unmoved : m.down ≡ m.up → is_renumbered m n ≡ false
-  unfolding is_renumbered
-  unmoved e = rw (eq-eqb m.down m.up e)
-
-  pub before : n < m.from → is_renumbered m n ≡ false
-  unfolding is_renumbered
-  before h = by (not (eqb m.down m.up)) (lt-leb m.from n h)
-    where
-      by : (b : Bool) {c : Bool} → c ≡ false → (b && c) ≡ false
-      by true e = e
-      by false e = refl
-
-  -- what is renumbered names one from the first on
-  pub from_on : is_renumbered m n ≡ true → m.from ≤ n
-  unfolding is_renumbered
-  from_on e = leb→le m.from n (and_right (not (eqb m.down m.up)) (leb m.from n) (T_of e))
+-- what is renumbered names one from the first on
+pub from_on : (m : Renumbering) (n : ℕ) → is_renumbered m n ≡ true → m.from ≤ n
+unfolding is_renumbered
+from_on m n e = leb→le m.from n (and_right (not (eqb m.down m.up)) (leb m.from n) (T_of e))
 
 module _ (m : Renumbering) (s : List ℕ) (at : ℕ) (x : Text) where
   renumbered_as : (a b : Bool) → is_tag_of (Kind.object_reference ∷ Kind.variable_reference ∷ []) (get_or s at 0) ≡ a → is_renumbered m x.content ≡ b
@@ -106,7 +119,3 @@ module _ {c : Change} (g : ℕ) (s : List ℕ) (at : ℕ) (x : Text) where
 
   pub as_renumbered : {m : Renumbering} → c ≡ Change.Renumber m → respelled_text c g s at x ≡ renumbered_text m s at x
   as_renumbered e = ap (λ (d : Change). respelled_text d g s at x) e
-
--- a reference is more than its tag
-pub more_of : {s : List ℕ} {at : ℕ} {x : Text} → Bounds s at x → ReferenceTag (get_or s at 0) → at + 2 ≤ x.next
-more_of b o = b.more (λ e. ⊎_elim (λ i. omega (arith, e, i)) (λ i. omega (arith, e, i)) o)

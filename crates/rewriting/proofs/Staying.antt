@@ -3,7 +3,7 @@ use Prim.Native.Nat.{ℕ, zero, suc, ◌+◌, ◌≤◌, ◌<◌}
 use native.Mathlib.Omega.{arith}
 use mathlib.Core.Path.{◌≡◌, refl, sym, ap, ◌∙◌, subst}
 use mathlib.Core.Logic.{◌⊎◌, inl, inr, ⊎_elim}
-use mathlib.Core.Bool.{Bool, true, false, true≢false, false≢true}
+use mathlib.Core.Bool.{Bool, true, false, not, true≢false, false≢true}
 use mathlib.Core.List.{List, [], ◌∷◌, ◌++◌}
 use lib.Dec.{T}
 use lib.ListN.{length, get_or, drop, length-drop}
@@ -157,8 +157,8 @@ module _ {c : Change} (g : ℕ) (s : List ℕ) (at : ℕ) (x : Text) where
   does_stay e = record { kept = λ i. e; changes = λ i. absurd (true≢false i) }
 
   -- canonical text: nothing is asked of a token that is written again
-  rewritten_whatever : c ≡ Change.Canonical → Changes c s at x
-  rewritten_whatever e = record { moves = λ m i. absurd (never m (sym e ∙ i)) }
+  rewritten_whatever : c ≡ Change.Canonical → (get_or s at 0 ≡ byte "}" → ⊥) → Changes c s at x
+  rewritten_whatever e b = record { number = b; moves = λ m i. absurd (never m (sym e ∙ i)) }
     where
       never : (m : Renumbering) → Change.Canonical ≡ Change.Renumber m → ⊥
       never m j = let z : ◌≡◌ {A = ℕ} 0 1 = cc in omega arith
@@ -166,12 +166,10 @@ module _ {c : Change} (g : ℕ) (s : List ℕ) (at : ℕ) (x : Text) where
   pub unnumbered_stays : c ≡ Change.Canonical → Unnumbered (get_or s at 0) → Stays c g s at x true
   unnumbered_stays e p = does_stay (as_canonical g s at x e ∙ unnumbered-text s at x p)
 
-  pub object-changes : c ≡ Change.Canonical → Stays c g s at x false
-  object-changes e = record { kept = λ i. absurd (false≢true i); changes = λ i. rewritten_whatever e }
-
-  pub number_stays : Found read_token (token_told at) s at x → c ≡ Change.Canonical → (get_or s at 0 ≡ tag Kind.object → ⊥) → (r : Bool)
+  pub number_stays : Found read_token (token_told at) s at x → c ≡ Change.Canonical → (get_or s at 0 ≡ byte "}" → ⊥)
+      → (get_or s at 0 ≡ tag Kind.object → ⊥) → (r : Bool)
       → (r ≡ true → ShortestFront (get_or s (at + 2) 0) (get_or s (at + 3) 0)) → Stays c g s at x r
-  number_stays f e n r l = record { kept = λ i. same (l i); changes = λ i. rewritten_whatever e }
+  number_stays f e b n r l = record { kept = λ i. same (l i); changes = λ i. rewritten_whatever e b }
     where
       st : Stands s at f.what x
       st = found-stands s at x f
@@ -182,13 +180,14 @@ module _ {c : Change} (g : ℕ) (s : List ℕ) (at : ℕ) (x : Text) where
           ∙ sym (whole s at x f.what st)
 
   module _ {m : Renumbering} (e : c ≡ Change.Renumber m) where
-    pub reference_stays : ReferenceTag (get_or s at 0) → is_renumbered m x.content ≡ false → Stays c g s at x true
-    reference_stays o h = does_stay (as_renumbered g s at x e ∙ spelled_kept m s at x o h)
-
-    pub reference-changes : ReferenceTag (get_or s at 0) → is_renumbered m x.content ≡ true → Stays c g s at x false
-    reference-changes o h = record {
+    pub reference_stays : ReferenceTag (get_or s at 0) → {b : Bool} → b ≡ is_renumbered m x.content → Stays c g s at x (not b)
+    reference_stays o {b = false} h = does_stay (as_renumbered g s at x e ∙ spelled_kept m s at x o (sym h))
+    reference_stays o {b = true} h = record {
       kept = λ i. absurd (false≢true i);
-      changes = λ i. record { moves = λ n j. (o, subst (λ (u : Renumbering). is_renumbered u x.content ≡ true) (one (sym e ∙ j)) h) };
+      changes = λ i. record {
+        number = λ j. ⊎_elim (λ k. omega (arith, j, k)) (λ k. omega (arith, j, k)) o;
+        moves = λ n j. (o, subst (λ (u : Renumbering). is_renumbered u x.content ≡ true) (one (sym e ∙ j)) (sym h));
+      };
     }
       where
         one : {n : Renumbering} → Change.Renumber m ≡ Change.Renumber n → m ≡ n

@@ -1,14 +1,12 @@
 -- WHAT AN EDIT WRITES, of any source.
-use Rattle.std.specs.Prelude.{◌≡◌, List, ◌++◌, Bool, true, ◌&&◌, ℕ, ◌-◌, leb, length}
+use Rattle.std.specs.Prelude.{◌≡◌, List, ◌++◌, Option, Some, None, Bool, true, ◌&&◌, ℕ, ◌-◌, leb, length}
 use Rattle.std.proofs.lemmas.List.Edits.{sets}
 use Rattle.format.specs.Limits.{source_limit, number_limit}
 use Rattle.format.specs.Answer.{Answer, ok, refused, ◌>>=◌, require}
 use Rattle.tokens.specs.Between.{Stretch}
 use Rattle.rewriting.specs.declared.Edit.{Edit}
-use Rattle.rewriting.specs.declared.Edited.{Edited}
 use Rattle.rewriting.specs.declared.rewrite.Change.{Change}
 use Rattle.rewriting.specs.declared.splice.Splice.{Splice}
-use Rattle.rewriting.specs.Output.{Within}
 use Rattle.rewriting.specs.Shortest.{numbered_text}
 use Rattle.rewriting.specs.Rewriting.{rewritten_text, renumbered_between}
 
@@ -48,11 +46,11 @@ writable n e key value = leb n source_limit && (leb key source_limit && (leb val
 
 -- WHAT WRITING ANSWERS AND LEAVES
 
--- the paper's number and values for each case of the enum: the length of the whole; 14, since of an edit of a plan that was read what is not edited at all
--- would be longer than a plan may be (`unfit_14`, crates/editor)
-unfoldable pub edited_answer : Edited → Answer ℕ
-edited_answer (Edited.Written size) = ok size
-edited_answer Edited.Unfit = refused 14 0
+-- the paper's number and values: the length of the whole; 14, since of an edit of a plan that was read what is not edited at all would be longer than a plan
+-- may be (`unfit_14`, crates/editor)
+unfoldable pub edited_answer : Option ℕ → Answer ℕ
+edited_answer (Some size) = ok size
+edited_answer None = refused 14 0
 
 -- what is to write
 abbrev pub edited_bytes : (s table : List ℕ) → Edit → (key value : List ℕ) → Answer (List ℕ)
@@ -70,7 +68,7 @@ output_edited (ok bytes) out = sets out 0 bytes
 output_edited (refused n p) out = out
 
 -- the answer, and every byte of the output, for every input
-pub record Edits (s table : List ℕ) (e : Edit) (key value out out' : List ℕ) (r : Edited) : Type 0 where
+pub record Edits (s table : List ℕ) (e : Edit) (key value out out' : List ℕ) (r : Option ℕ) : Type 0 where
   pub answer : edited_answer r ≡ length_edited (edited_bytes s table e key value)
   pub output : out' ≡ output_edited (edited_bytes s table e key value) out
 
@@ -82,8 +80,3 @@ pub record Parted (s : List ℕ) (p : Splice) : Type 0 where
   pub middle : Stretch s p.inside p.from
   pub left : Stretch s p.from p.to
   pub back : Stretch s p.to (length s)
-
--- a splice that is written: no index overflows
-pub record Spliceable (s key value : List ℕ) (p : Splice) : Type 0 where
-  pub stands : stands (length s) p ≡ true
-  pub within : Within (spliced_text s key value p) 0

@@ -5,7 +5,8 @@ use Rattle.decimal.specs.Digits.{decimal}
 use Rattle.format.specs.Bytes.{byte}
 use Rattle.format.specs.Kind.{Kind, tag}
 use Rattle.scanner.specs.declared.Text.{Text}
-use Rattle.rewriting.specs.Output.{signed_digits}
+use Rattle.rewriting.specs.declared.output.Output.{Output}
+use Rattle.rewriting.specs.Output.{signed_digits, Appends}
 
 -- the first two bytes of a number or an integer tell that it is in shortest form: a digit other than 0; a digit and no more; a minus and a digit other than 0
 pub data ShortestFront (first second : ℕ) : Type 0 where
@@ -61,3 +62,10 @@ pub record Bounds (s : List ℕ) (at : ℕ) (x : Text) : Type 0 where
   pub int : get_or s at 0 ≡ tag Kind.int → at + 4 ≤ x.next
   pub string : get_or s at 0 ≡ tag Kind.string → QuotedBounds at x
   pub object : get_or s at 0 ≡ tag Kind.object → QuotedBounds at x
+
+-- a token's new text, of which its numbers are written: its tag and its colon, these, and the bytes that stay from an index on
+pub record Respells (all s : List ℕ) (at next : ℕ) (o : Output) (kept : ℕ) (o' : Output) : Type 0 where
+  pub numbers : List ℕ
+  pub wrote : Appends numbers o o'
+  pub split : all ≡ slice at (at + 2) s ++ (numbers ++ slice kept next s)
+  pub inside : kept ≤ next

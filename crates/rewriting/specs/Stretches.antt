@@ -1,6 +1,7 @@
 -- Tokens that stay as they are, one behind another.
 use Rattle.std.specs.Prelude.{◌≡◌, List, [], ◌++◌, Bool, true, false, ℕ, suc, ◌+◌, ◌-◌, ◌≤◌, ◌<◌, length, get_or}
 use Rattle.std.proofs.Math.Seq.{slice}
+use Rattle.format.specs.Bytes.{byte}
 use Rattle.scanner.specs.declared.Text.{Text}
 use Rattle.scanner.specs.Scans.{Found}
 use Rattle.tokens.specs.Tokens.{read_token, token_told, ReferenceTag, closes_of}
@@ -11,8 +12,9 @@ use Rattle.rewriting.specs.Rewriting.{is_renumbered, respelled_text, rewritten_t
 
 -- ---- one token
 
--- it is written again: where references are renumbered, it is one that is
+-- it is written again: it has a number, and where references are renumbered, it is one that is
 pub record Changes (c : Change) (s : List ℕ) (at : ℕ) (x : Text) : Type 0 where
+  pub number : get_or s at 0 ≡ byte "}" → ⊥
   pub moves : (m : Renumbering) → c ≡ Change.Renumber m → ReferenceTag (get_or s at 0) × (is_renumbered m x.content ≡ true)
 
 pub record Stays (c : Change) (tag : ℕ) (s : List ℕ) (at : ℕ) (x : Text) (r : Bool) : Type 0 where

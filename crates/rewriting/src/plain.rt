@@ -1,89 +1,61 @@
 // Plain tokens, which stay as they are whatever the change: they are passed without their values.
-ghost use Rattle.std.specs.Prelude.{◌<◌};
+ghost use Rattle.std.specs.Prelude.{IfSome};
 ghost use Rattle.format.specs.Bytes.{byte};
 ghost use Rattle.rewriting.specs.Stretches.{TagAt, Passes};
 
 use crate::shortest::is_shortest;
 use bytes_at::byte_is;
 use format::kind::Kind;
+use scanner::float::plain_end;
 
 // So many digits are an integer, whatever they say.
 const SAFE_DIGITS: usize = 18;
 
-// The index behind the semicolon of an N; or the tag's, if there is none.
-fn behind_null(source: &[u8], at: usize) -> usize
+// The index behind the semicolon of an N, if one stands there.
+fn behind_null(source: &[u8], at: usize) -> Option<usize>
     requires { TagAt source.now at (byte "N") }
-    ensures { at < result → Passes source.now at result }
+    ensures { IfSome result (Passes source.now at) }
 {
-    if byte_is(source, at + 1, b';') {
-        return at + 2;
-    }
-    at
+    byte_is(source, at + 1, b';').then_some(at + 2)
 }
 
-// The index behind an integer without a sign, of few digits and in shortest form; or the tag's, if something else stands there.
-fn behind_int(source: &[u8], at: usize) -> usize
+// The index behind an integer without a sign, of few digits and in shortest form, if one stands there.
+fn behind_int(source: &[u8], at: usize) -> Option<usize>
     requires { TagAt source.now at (byte "i") }
-    ensures { at < result → Passes source.now at result }
+    ensures { IfSome result (Passes source.now at) }
 {
     if !byte_is(source, at + 1, b':') {
-        return at;
+        return None;
     }
-    let from = at + 2;
-    let end = decimal::run_at(source, from, 0).next;
-    if end <= from {
-        return at;
+    let end = decimal::run_at(source, at + 2, 0).next;
+    let digits = end - (at + 2);
+    if digits == 0 || SAFE_DIGITS < digits || !byte_is(source, end, b';') {
+        return None;
     }
-    if SAFE_DIGITS < end - from {
-        return at;
-    }
-    if !byte_is(source, end, b';') {
-        return at;
-    }
-    if !is_shortest(source[at + 2], source[at + 3]) {
-        return at;
-    }
-    end + 1
+    is_shortest(source[at + 2], source[at + 3]).then_some(end + 1)
 }
 
-// The index behind a float of digits with at most one point; or the tag's, if something else stands there.
-fn behind_float(source: &[u8], at: usize) -> usize
+// The index behind a float of digits with at most one point, if one stands there.
+fn behind_float(source: &[u8], at: usize) -> Option<usize>
     requires { TagAt source.now at (byte "d") }
-    ensures { at < result → Passes source.now at result }
+    ensures { IfSome result (Passes source.now at) }
 {
     if !byte_is(source, at + 1, b':') {
-        return at;
+        return None;
     }
-    let from = at + 2;
-    let point = decimal::run_at(source, from, 0).next;
-    if point == from {
-        return at;
-    }
-    if byte_is(source, point, b';') {
-        return point + 1;
-    }
-    if !byte_is(source, point, b'.') {
-        return at;
-    }
-    let end = decimal::run_at(source, point + 1, 0).next;
-    if byte_is(source, end, b';') {
-        return end + 1;
-    }
-    at
+    let end = plain_end(source, at + 2)?;
+    Some(end + 1)
 }
 
-// The index behind a plain token; or the index itself, if something else stands there.
-pub(crate) fn behind_plain(source: &[u8], at: usize) -> usize
-    ensures { at < result → Passes source.now at result }
+// The index behind a plain token, if one stands there.
+pub(crate) fn behind_plain(source: &[u8], at: usize) -> Option<usize>
+    ensures { IfSome result (Passes source.now at) }
 {
-    if source.len() <= at {
-        return at;
-    }
-    let tag = source[at];
+    let tag = *source.get(at)?;
     match tag {
         Kind::NULL => behind_null(source, at),
         Kind::INT => behind_int(source, at),
         Kind::FLOAT => behind_float(source, at),
-        _ => at,
+        _ => None,
     }
 }

@@ -1,11 +1,11 @@
 // The source with an array's head counted anew, bytes left out and texts put in: what inserting and removing write.
-ghost use Rattle.std.specs.Prelude.{◌≡◌};
-ghost use Rattle.rewriting.specs.Output.{Puts};
-ghost use Rattle.rewriting.specs.Edited.{stands, spliced_text, Spliceable};
+ghost use Rattle.std.specs.Prelude.{◌≡◌, true, length};
+ghost use Rattle.rewriting.specs.Output.{Appends};
+ghost use Rattle.rewriting.specs.Rewriting.{is_renumbered};
+ghost use Rattle.rewriting.specs.Edited.{stands, spliced_text};
 
-use crate::output::copy;
+use crate::output::Output;
 use crate::rewrite::{Change, rewrite};
-use crate::shortest::numbered;
 use format::limits::NUMBER_LIMIT;
 
 // How references move: one that names an ordinal from this one on names it less `down` and plus `up`, in shortest form, if that is another.
@@ -14,6 +14,16 @@ pub struct Renumbering {
     pub from: u64,
     pub down: u64,
     pub up: u64,
+}
+
+impl Renumbering {
+    // Whether a reference to this ordinal comes to name another.
+    #[tactic(auto, unfolding(crate::specs::Rewriting::is_renumbered))]
+    pub(crate) fn moves(self, named: u64) -> bool
+        ensures { result ≡ is_renumbered self named }
+    {
+        self.down != self.up && self.from <= named
+    }
 }
 
 // Where the source changes: the indices of the array's tag and of its first pair, and those from which and up to which bytes are left out for the texts that
@@ -32,47 +42,33 @@ pub struct Splice {
 pub(crate) fn can_splice(size: usize, splice: Splice) -> bool
     ensures { result ≡ stands size splice }
 {
-    if splice.inside < 2 {
-        return false;
-    }
-    if splice.inside - 2 < splice.at {
-        return false;
-    }
-    if size < splice.inside {
-        return false;
-    }
-    if NUMBER_LIMIT < splice.count {
-        return false;
-    }
-    let renumbering = splice.renumbering;
-    if NUMBER_LIMIT < renumbering.up {
-        return false;
-    }
-    renumbering.down <= renumbering.from
+    2 <= splice.inside
+        && splice.at <= splice.inside - 2
+        && splice.inside <= size
+        && splice.count <= NUMBER_LIMIT
+        && splice.renumbering.up <= NUMBER_LIMIT
+        && splice.renumbering.down <= splice.renumbering.from
 }
 
-// Writes the spliced source, as far as there is room; its length. Renumbering asks for no node, so none is counted.
+// Writes the spliced source, as far as there is room. Renumbering asks for no node, so none is counted.
 pub(crate) fn write_spliced(
     source: &[u8],
     table: &[u64],
     splice: Splice,
     key: &[u8],
     value: &[u8],
-    out: &mut [u8],
-) -> usize
-    requires { Spliceable source.now key.now value.now splice }
-    ensures { Puts (spliced_text source.now key.now value.now splice) 0 out.old result out.new }
+    out: &mut Output,
+)
+    requires { stands (length source.now) splice ≡ true }
+    ensures { Appends (spliced_text source.now key.now value.now splice) out.old out.new }
 {
-    let at = splice.at;
-    let inside = splice.inside;
-    let from = splice.from;
-    let to = splice.to;
-    let renumbering = splice.renumbering;
-    let renumber = Change::Renumber(renumbering);
-    let before = rewrite(source, table, 0, at, 0, renumber, out, 0);
-    let counted = numbered(source, at, splice.count, inside - 2, inside, out, before);
-    let upto = rewrite(source, table, inside, from, 0, renumber, out, counted);
-    let keyed = copy(key, 0, key.len(), out, upto);
-    let valued = copy(value, 0, value.len(), out, keyed);
-    rewrite(source, table, to, source.len(), 0, renumber, out, valued)
+    let renumber = Change::Renumber(splice.renumbering);
+    rewrite(source, table, 0, splice.at, renumber, out);
+    out.append(&source[splice.at..splice.at + 2]);
+    out.number(splice.count);
+    out.append(&source[splice.inside - 2..splice.inside]);
+    rewrite(source, table, splice.inside, splice.from, renumber, out);
+    out.append(key);
+    out.append(value);
+    rewrite(source, table, splice.to, source.len(), renumber, out);
 }

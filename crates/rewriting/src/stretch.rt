@@ -9,7 +9,7 @@ use crate::plain::behind_plain;
 use crate::rewrite::Change;
 use crate::shortest::is_shortest;
 use format::kind::Kind;
-use scanner::{Scan, Text};
+use scanner::Text;
 use tables::tag_at;
 use tokens::token;
 
@@ -26,22 +26,13 @@ fn stays(source: &[u8], at: usize, text: Text, tag: u64, change: Change) -> bool
             _ => is_shortest(source[at + 2], source[at + 3]),
         },
         Change::Renumber(renumbering) => match letter {
-            Kind::OBJECT_REFERENCE | Kind::VARIABLE_REFERENCE => {
-                if renumbering.down == renumbering.up {
-                    return true;
-                }
-                let named = text.content;
-                if renumbering.from <= named {
-                    return false;
-                }
-                true
-            }
+            Kind::OBJECT_REFERENCE | Kind::VARIABLE_REFERENCE => !renumbering.moves(text.content),
             _ => true,
         },
     }
 }
 
-// What ends a stretch: a token that changes, with its text and its node; or that no token is left to write.
+// What ends a stretch: a token that changes, with its text and its node; or that no token is left to write. No Option: each case has the index where it ends.
 #[derive(Clone, Copy)]
 pub enum Stop {
     Token { at: usize, text: Text, node: usize },
@@ -73,15 +64,14 @@ pub(crate) fn stretch(
 {
     let mut at = from;
     let mut node = first;
+    // No `for`: how far a step goes is known once the token there was scanned.
     while at < to {
-        let behind = behind_plain(source, at);
-        if at < behind {
+        if let Some(behind) = behind_plain(source, at) {
             at = behind;
             node += 1;
             continue;
         }
-        let scan = token(source, at);
-        let Scan::Is(text) = scan else {
+        let Ok(text) = token(source, at) else {
             return Stop::End(at);
         };
         if !stays(source, at, text, tag_at(table, node), change) {

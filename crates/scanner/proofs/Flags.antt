@@ -8,21 +8,22 @@ use lib.Dec.{eqb, lit<}
 use lib.ListN.{length, get_or, take, drop, drop_of_length-le}
 use lib.Seq.{drop-cons}
 use Rattle.decimal.proofs.Decide.{Order, below, above, order, Test, passed, failed, test}
+use Rattle.std.specs.Prelude.{Ok, Err}
+use Rattle.format.specs.declared.codes.Code.{Code}
 use Rattle.format.specs.Bytes.{byte, bytes, same_bytes}
 use Rattle.format.specs.Answer.{Answer, ok, refused, ◌>>=◌, require}
 use Rattle.format.specs.Read.{expect, bool_text}
-use Rattle.scanner.specs.declared.Scan.{Scan}
 use Rattle.bytes_at.specs.ByteAt.{byte_at}
 use Rattle.scanner.specs.Scans.{Scans, null_text, tell, nothing_told, bool_told}
 use Rattle.scanner.proofs.Numbers.{scans-is, scans_not}
 use Rattle.bytes_at.proofs.BytesAt.{byte_in, byte-there, drop-byte, expect_yes, expect-no, pair-first, pair-second, pair-there}
 
 module _ (s : List ℕ) (at : ℕ) where
-  pub null_open : eqb (byte_at s at) (byte ";") ≡ false → Scans null_text nothing_told s at (Scan.Not 2)
+  pub null_open : eqb (byte_at s at) (byte ";") ≡ false → Scans null_text nothing_told s at (Err Code.TextUnfit)
   unfolding null_text
-  null_open e = scans_not 2 (λ l. rw (null_text, expect-no l s at (byte ";") [] e))
+  null_open e = scans_not Code.TextUnfit (λ l. rw (null_text, expect-no l s at (byte ";") [] e))
 
-  pub null_is : eqb (byte_at s at) (byte ";") ≡ true → Scans null_text nothing_told s at (Scan.Is (tell 0 0 0 (at + 1)))
+  pub null_is : eqb (byte_at s at) (byte ";") ≡ true → Scans null_text nothing_told s at (Ok (tell 0 0 0 (at + 1)))
   unfolding null_text
   null_is e =
       let k : at < length s = byte-there s at (byte ";") (lit< tt) e in
@@ -34,9 +35,9 @@ module _ (s : List ℕ) (at : ℕ) where
         inside = omega arith;
       }
 
-  pub bool_open : eqb (byte_at s at) (byte ":") ≡ false → Scans bool_text bool_told s at (Scan.Not 2)
+  pub bool_open : eqb (byte_at s at) (byte ":") ≡ false → Scans bool_text bool_told s at (Err Code.TextUnfit)
   unfolding bool_text
-  bool_open e = scans_not 2 (λ l. rw (bool_text, expect-no l s at (byte ":") [] e))
+  bool_open e = scans_not Code.TextUnfit (λ l. rw (bool_text, expect-no l s at (byte ":") [] e))
 
   module _ (colon : eqb (byte_at s at) (byte ":") ≡ true) where
     -- what follows the colon
@@ -64,7 +65,7 @@ module _ (s : List ℕ) (at : ℕ) where
 
     bool_is : (v : Bool) (b w : ℕ) → b < 256 → ((l : ℕ) (s₂ : List ℕ) → rest l (b ∷ s₂) ≡ (expect l (bytes ";") s₂ >>= λ s₃. ok (v, s₃)))
         → w ≡ (bool_told v 0).content
-        → (eqb (byte_at s (at + 1)) b && eqb (byte_at s (at + 1 + 1)) (byte ";")) ≡ true → Scans bool_text bool_told s at (Scan.Is (tell w 0 0 (at + 3)))
+        → (eqb (byte_at s (at + 1)) b && eqb (byte_at s (at + 1 + 1)) (byte ";")) ≡ true → Scans bool_text bool_told s at (Ok (tell w 0 0 (at + 3)))
     bool_is v b w h f q e =
         let k : at + 1 + 1 < length s = pair-there s (at + 1) b (byte ";") e (lit< tt) in
         scans-is (tell w 0 0 (at + 3)) record {
@@ -76,16 +77,16 @@ module _ (s : List ℕ) (at : ℕ) where
         }
 
     pub bool_zero : (eqb (byte_at s (at + 1)) (byte "0") && eqb (byte_at s (at + 1 + 1)) (byte ";")) ≡ true
-        → Scans bool_text bool_told s at (Scan.Is (tell 0 0 0 (at + 3)))
+        → Scans bool_text bool_told s at (Ok (tell 0 0 0 (at + 3)))
     bool_zero e = bool_is false (byte "0") 0 (lit< tt) (λ l s₂. refl) refl e
 
     pub bool-one : (eqb (byte_at s (at + 1)) (byte "1") && eqb (byte_at s (at + 1 + 1)) (byte ";")) ≡ true
-        → Scans bool_text bool_told s at (Scan.Is (tell 1 0 0 (at + 3)))
+        → Scans bool_text bool_told s at (Ok (tell 1 0 0 (at + 3)))
     bool-one e = bool_is true (byte "1") 1 (lit< tt) (λ l s₂. refl) refl e
 
     pub bool_not : (eqb (byte_at s (at + 1)) (byte "0") && eqb (byte_at s (at + 1 + 1)) (byte ";")) ≡ false
-        → (eqb (byte_at s (at + 1)) (byte "1") && eqb (byte_at s (at + 1 + 1)) (byte ";")) ≡ false → Scans bool_text bool_told s at (Scan.Not 2)
-    bool_not z o = scans_not 2 (λ l. opened l ∙ go l (test (eqb (byte_at s (at + 1)) (byte "0"))) (test (eqb (byte_at s (at + 1)) (byte "1"))))
+        → (eqb (byte_at s (at + 1)) (byte "1") && eqb (byte_at s (at + 1 + 1)) (byte ";")) ≡ false → Scans bool_text bool_told s at (Err Code.TextUnfit)
+    bool_not z o = scans_not Code.TextUnfit (λ l. opened l ∙ go l (test (eqb (byte_at s (at + 1)) (byte "0"))) (test (eqb (byte_at s (at + 1)) (byte "1"))))
       where
         bare : (l b : ℕ) → b < 256 → eqb (byte_at s (at + 1)) b ≡ true → (eqb (byte_at s (at + 1)) b && eqb (byte_at s (at + 1 + 1)) (byte ";")) ≡ false
             → (v : Bool) → ((s₂ : List ℕ) → rest l (b ∷ s₂) ≡ (expect l (bytes ";") s₂ >>= λ s₃. ok (v, s₃))) → rest l (drop (at + 1) s) ≡ refused 2 l

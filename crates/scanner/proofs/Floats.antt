@@ -2,20 +2,22 @@
 use Prim.Native.Nat.{ℕ, suc, ◌+◌, ◌-◌, ◌≤◌, ◌<◌}
 use native.Mathlib.Numerals.{add-one}
 use native.Mathlib.Omega.{arith}
-use mathlib.Core.Path.{◌≡◌, sym, ap, ◌∙◌}
-use mathlib.Core.Bool.{true, false}
+use mathlib.Core.Path.{◌≡◌, refl, sym, ap, ◌∙◌}
+use mathlib.Core.Bool.{Bool, true, false}
 use mathlib.Core.List.{List, [], ◌∷◌, ◌++◌, append_assoc, append-nil}
 use lib.Dec.{eqb, lit<}
 use lib.ListN.{length, get_or, take, drop, length-drop, drop_of_length-le}
 use lib.Seq.{drop-cons, drop-drop, take-suc, get_or-drop, length-take-le}
 use borrow.Author.Tests.{ne_eqb}
+use Rattle.std.proofs.lemmas.List.{take_all}
+use Rattle.std.specs.Prelude.{Ok, Err}
+use Rattle.format.specs.declared.codes.Code.{Code}
 use Rattle.format.specs.Bytes.{byte, bytes}
 use Rattle.format.specs.Limits.{is_float}
-use Rattle.format.specs.Answer.{Answer, ok, require, ◌>>=◌}
+use Rattle.format.specs.Answer.{Answer, ok, refused, require, ◌>>=◌}
 use Rattle.format.specs.Read.{expect, until, float_text}
-use Rattle.scanner.specs.declared.Scan.{Scan}
 use Rattle.scanner.specs.Scans.{Scans, tell, float_told}
-use Rattle.scanner.specs.Parts.{SemicolonAt}
+use Rattle.scanner.specs.Parts.{SemicolonAt, NoSemicolon}
 use Rattle.bytes_at.specs.ByteAt.{byte_at}
 use Rattle.bytes_at.proofs.BytesAt.{expect_yes, expect-no}
 use Rattle.scanner.proofs.Numbers.{scans-is, scans_not}
@@ -66,57 +68,64 @@ passed-stop : (s : List ℕ) (at i : ℕ) → Passed s at i → until (byte ";")
 passed-stop s at i p e = p.part ∙ ap (λ (x : List ℕ). take (i - at) (drop at s) ++ x) e ∙ append-nil (take (i - at) (drop at s))
 
 pub semicolon-here : (s : List ℕ) (at i : ℕ) → Passed s at i → i < length s → get_or s i 0 ≡ byte ";" → SemicolonAt s at i
-semicolon-here s at i p h e = record { part = passed-stop s at i p (rw (drop-cons s i 0 h, until, e)); stop = λ l. e; inside = omega arith; on = p.on }
+semicolon-here s at i p h e = record { part = passed-stop s at i p (rw (drop-cons s i 0 h, until, e)); stop = e; inside = h; on = p.on }
 
-pub semicolon-none : (s : List ℕ) (at i : ℕ) → Passed s at i → length s ≤ i → SemicolonAt s at i
-semicolon-none s at i p h = record {
-  part = passed-stop s at i p (ap (until (byte ";")) (drop_of_length-le s h));
-  stop = λ l. absurd (omega arith);
-  inside = p.inside;
-  on = p.on;
-}
+pub semicolon-none : (s : List ℕ) (at i : ℕ) → Passed s at i → length s ≤ i → NoSemicolon s at
+semicolon-none s at i p h = passed-stop s at i p (ap (until (byte ";")) (drop_of_length-le s h))
+    ∙ take_all (i - at) (drop at s) (omega (arith, length-drop at s, p.on))
 
 -- ---- a float text up to its semicolon
 
 module _ (s : List ℕ) (at : ℕ) where
-  pub float_colon : eqb (byte_at s at) (byte ":") ≡ false → Scans float_text (float_told at) s at (Scan.Not 2)
+  pub float_colon : eqb (byte_at s at) (byte ":") ≡ false → Scans float_text (float_told at) s at (Err Code.TextUnfit)
   unfolding float_text
-  float_colon e = scans_not 2 (λ l. rw (float_text, expect-no l s at (byte ":") [] e))
+  float_colon e = scans_not Code.TextUnfit (λ l. rw (float_text, expect-no l s at (byte ":") [] e))
 
-  module _ (colon : eqb (byte_at s at) (byte ":") ≡ true) (end : ℕ) (semi : SemicolonAt s (at + 1) end) where
-    abbrev part : List ℕ
-    part = take (end - (at + 1)) (drop (at + 1) s)
-
-    long : length part ≡ end - (at + 1)
-    long = length-take-le (end - (at + 1)) (drop (at + 1) s) (omega (arith, length-drop (at + 1) s, semi.inside, semi.on))
-
-    there : at + 1 + (end - (at + 1)) ≡ end
-    there = omega (arith, semi.on)
-
-    -- what follows the colon
-    abbrev rest : (l : ℕ) → Answer (List ℕ × List ℕ)
-    rest l = do
-      _ ← require (is_float part) 2 l
+  module _ (colon : eqb (byte_at s at) (byte ":") ≡ true) where
+    abbrev ended : (part : List ℕ) → (end : ℕ) → Answer (Unit {0}) → (l : ℕ) → Answer (List ℕ × List ℕ)
+    ended part end fit l = do
+      _ ← fit
       s₂ ← expect l (bytes ";") (drop end s)
       ok (part, s₂)
 
-    opened : (l : ℕ) → float_text l (drop at s) ≡ rest l
+    -- what follows the colon
+    abbrev rest : (part : List ℕ) → (end l : ℕ) → Answer (List ℕ × List ℕ)
+    rest part end l = ended part end (require (is_float part) 2 l) l
+
+    opened : (part : List ℕ) (end : ℕ) → until (byte ";") (drop (at + 1) s) ≡ part → at + 1 + length part ≡ end → (l : ℕ)
+        → float_text l (drop at s) ≡ rest part end l
     unfolding float_text
-    opened l = rw (float_text, expect_yes l s at (byte ":") [] (lit< tt) colon, semi.part, long, drop-drop (end - (at + 1)) (at + 1) s, there)
+    opened part end e n l = rw (float_text, expect_yes l s at (byte ":") [] (lit< tt) colon, e, drop-drop (length part) (at + 1) s, n)
 
-    pub float_not : is_float part ≡ false → Scans float_text (float_told at) s at (Scan.Not 2)
-    float_not e = scans_not 2 (λ l. opened l ∙ rw e)
+    pub float_open : at + 1 ≤ length s → NoSemicolon s (at + 1) → Scans float_text (float_told at) s at (Err Code.TextUnfit)
+    float_open h none = scans_not Code.TextUnfit (λ l.
+        opened (drop (at + 1) s) (length s) none (omega (arith, length-drop (at + 1) s)) l ∙ shut (is_float (drop (at + 1) s)) l)
+      where
+        shut : (b : Bool) (l : ℕ) → ended (drop (at + 1) s) (length s) (require b 2 l) l ≡ refused 2 l
+        shut true l = let none : drop (length s) s ≡ [] = drop_of_length-le s (omega arith) in rw none
+        shut false l = refl
 
-    module _ (e : is_float part ≡ true) where
-      pub float_open : length s ≤ end → Scans float_text (float_told at) s at (Scan.Not 2)
-      float_open h = scans_not 2 (λ l. opened l ∙ rw (e, drop_of_length-le s h))
+    module _ (end : ℕ) (semi : SemicolonAt s (at + 1) end) where
+      abbrev part : List ℕ
+      part = take (end - (at + 1)) (drop (at + 1) s)
 
-      pub float_is : (w : ℕ) → w ≡ at + 1 → (n : ℕ) → n ≡ end - (at + 1) → end < length s → Scans float_text (float_told at) s at (Scan.Is (tell w n 0 (end + 1)))
-      float_is w a n b h =
+      long : length part ≡ end - (at + 1)
+      long = length-take-le (end - (at + 1)) (drop (at + 1) s) (omega (arith, length-drop (at + 1) s, semi.inside, semi.on))
+
+      there : at + 1 + length part ≡ end
+      there = omega (arith, semi.on, long)
+
+      pub float_not : is_float part ≡ false → Scans float_text (float_told at) s at (Err Code.TextUnfit)
+      float_not e = scans_not Code.TextUnfit (λ l. opened part end semi.part there l ∙ rw e)
+
+      pub float_is : is_float part ≡ true → (w : ℕ) → w ≡ at + 1 → (n : ℕ) → n ≡ end - (at + 1)
+          → Scans float_text (float_told at) s at (Ok (tell w n 0 (end + 1)))
+      float_is e w a n b =
           scans-is (tell w n 0 (end + 1)) record {
             what = part;
-            is = λ l. opened l ∙ rw (e, drop-cons s end 0 h, semi.stop h) (ap (λ (k : ℕ). ok (part, drop k s)) (sym (add-one end)));
+            is = λ l. opened part end semi.part there l
+                ∙ rw (e, drop-cons s end 0 semi.inside, semi.stop) (ap (λ (k : ℕ). ok (part, drop k s)) (sym (add-one end)));
             tells = rw (long, a, b);
             on = omega (arith, semi.on);
-            inside = omega arith;
+            inside = omega (arith, semi.inside);
           }

@@ -14,6 +14,10 @@ use Rattle.decimal.specs.Promise.{RunAt}
 use Rattle.decimal.specs.declared.Run.{Run}
 use Rattle.decimal.proofs.Numerals.{digits-split}
 use Rattle.decimal.proofs.Numerals as numerals
+use Rattle.std.specs.Prelude.{Ok, Err, is_ok, IsErrAnd}
+use Rattle.std.proofs.lemmas.Result.{err_from_is_err_and}
+use Rattle.format.specs.declared.codes.Code.{Code}
+use Rattle.format.specs.Codes.{number_of}
 use Rattle.format.specs.Bytes.{byte, bytes}
 use Rattle.format.specs.Syntax.{Sign, unsigned, plus, minus, Literal, Spelling, write_number}
 use Rattle.format.specs.Keys.{integer}
@@ -27,9 +31,8 @@ use Rattle.format.proofs.Fronts.{number-front}
 use Rattle.format.proofs.Printed.{plus-digits, sign-digits}
 use Rattle.scanner.specs.declared.Text.{Text}
 use Rattle.scanner.specs.declared.number.Front.{Front}
-use Rattle.scanner.specs.declared.Scan.{Scan}
-use Rattle.scanner.specs.Scans.{Told, scan_answer, text_answer, Found, Scans, Answers, tell, value_told, literal_told}
-use Rattle.scanner.specs.Scans.{count_told}
+use Rattle.scanner.specs.Scans.{Scan, Told, scan_answer, text_answer, Found, Scans, Answers, tell, value_told, literal_told}
+use Rattle.scanner.specs.Scans.{Scan, count_told}
 use Rattle.scanner.specs.Parts.{digits_text, signed_text, signed_told, is_minus, FrontIs}
 use Rattle.bytes_at.specs.ByteAt.{byte_at}
 use Rattle.bytes_at.proofs.BytesAt.{byte-there, expect_yes, expect-no, pair-there, pair_yes, pair-no}
@@ -39,35 +42,40 @@ use Rattle.bytes_at.proofs.Runs.{run_rest, run_short}
 -- ---- answers
 
 module _ {A : Type 0} {read : Reader A} {told : Told A} {s : List ℕ} {at : ℕ} where
-  pub scans-is : (t : Text) → Found read told s at t → Scans read told s at (Scan.Is t)
+  pub scans-is : (t : Text) → Found read told s at t → Scans read told s at (Ok t)
   scans-is t f = record { found = λ l u e. subst (Found read told s at) (ok_same e) f; unfit = λ l c e. absurd (not_both (sym e)) }
 
-  pub scans_not : (c : ℕ) → ((l : ℕ) → read l (drop at s) ≡ refused c l) → Scans read told s at (Scan.Not c)
+  pub scans_not : (c : Code) → ((l : ℕ) → read l (drop at s) ≡ refused (number_of c) l) → Scans read told s at (Err c)
   scans_not c f = record { found = λ l t e. absurd (not_both e); unfit = λ l d e. f l ∙ ap (λ (n : ℕ). refused n l) (refused-same e).0 }
 
   -- which of the two it is, where the code knows
-  pub found_of : {r : Scan} {t : Text} → Scans read told s at r → r ≡ Scan.Is t → Found read told s at t
+  pub found_of : {r : Scan} {t : Text} → Scans read told s at r → r ≡ Ok t → Found read told s at t
   found_of {t = t} h e = h.found 0 t (ap (scan_answer 0) e)
 
-  pub unfit-of : {r : Scan} {c : ℕ} → Scans read told s at r → r ≡ Scan.Not c → (l : ℕ) → read l (drop at s) ≡ refused c l
-  unfit-of {c = c} h e l = h.unfit l c (ap (scan_answer l) e)
+  pub unfit-of : {r : Scan} {c : Code} → Scans read told s at r → r ≡ Err c → (l : ℕ) → read l (drop at s) ≡ refused (number_of c) l
+  unfit-of {c = c} h e l = h.unfit l (number_of c) (ap (scan_answer l) e)
+
+  -- what a `?` hands on
+  pub exits : {r : Scan} {c d : Code} → IsErrAnd r (λ e. e ≡ c) → c ≡ d → Scans read told s at (Err d) → Scans read told s at r
+  exits {r} h e k = let exit = err_from_is_err_and r h in subst (Scans read told s at) (sym (exit.1 ∙ ap Err (exit.2 ∙ e))) k
 
   -- what is read determines the answer
   pub answered : {r : Scan} → Scans read told s at r → Answers read told s at r
   unfolding text_answer
-  answered {r = Scan.Is t} h = record { answer = λ l. rw (f.is l) (ap ok (f.tells ∙ ap (told f.what) (ends f.inside))); scans = h }
+  answered {r = Ok t} h = record { answer = λ l. rw (f.is l) (ap ok (f.tells ∙ ap (told f.what) (ends f.inside))); scans = h }
     where
       f : Found read told s at t
       f = h.found 0 t refl
 
       ends : t.next ≤ length s → t.next ≡ length s - length (drop t.next s)
       ends h = omega (arith, length-drop t.next s)
-  answered {r = Scan.Not c} h = record { answer = λ l. rw (h.unfit l c refl); scans = h }
+  answered {r = Err c} h = record { answer = λ l. rw (h.unfit l (number_of c) refl); scans = h }
 
 -- a text whose part is unfit is unfit as its part is
-pub unfit-part : {A B : Type 0} {read : Reader A} {told : Told A} {whole : Reader B} {tells : Told B} {s : List ℕ} {at from c : ℕ} {r : Scan}
-    → Scans read told s from r → r ≡ Scan.Not c → ((l : ℕ) → read l (drop from s) ≡ refused c l → whole l (drop at s) ≡ refused c l) → Scans whole tells s at r
-unfit-part {whole = whole} {tells} {s} {at} {c = c} h e f = subst (Scans whole tells s at) (sym e) (scans_not c (λ l. f l (unfit-of h e l)))
+pub unfit-part : {A B : Type 0} {read : Reader A} {told : Told A} {whole : Reader B} {tells : Told B} {s : List ℕ} {at from : ℕ} {c : Code}
+    {r : Scan} → Scans read told s from r → r ≡ Err c
+    → ((l : ℕ) → read l (drop from s) ≡ refused (number_of c) l → whole l (drop at s) ≡ refused (number_of c) l) → Scans whole tells s at (Err c)
+unfit-part {whole = whole} {tells} {s} {at} {c = c} h e f = scans_not c (λ l. f l (unfit-of h e l))
 
 -- what was read, and what is left
 abbrev pub kept : {A : Type 0} → A → List ℕ → Answer (A × List ℕ)
@@ -154,20 +162,20 @@ after-part {A} {B} (ok q) e f = go (e q.1)
 -- ---- runs of digits
 
 module _ (s : List ℕ) (at top : ℕ) (r : Run) (h : RunAt s at (top + 1) r) where
-  pub digits-none : r.next ≡ at → Scans (digits_text top) value_told s at (Scan.Not 2)
+  pub digits-none : r.next ≡ at → Scans (digits_text top) value_told s at (Err Code.TextUnfit)
   unfolding digits
-  digits-none e = scans_not 2 (λ l. rw (digits, le-ltb 0 (length (digits_of (drop at s))) (omega (arith, h.next))))
+  digits-none e = scans_not Code.TextUnfit (λ l. rw (digits, le-ltb 0 (length (digits_of (drop at s))) (omega (arith, h.next))))
 
   module _ (n : r.next ≡ at → ⊥) where
     some : 0 < length (digits_of (drop at s))
     some = omega (arith, h.next, n)
 
-    pub digits-over : top < r.value → Scans (digits_text top) value_told s at (Scan.Not 5)
+    pub digits-over : top < r.value → Scans (digits_text top) value_told s at (Err Code.OutOfRange)
     unfolding digits
     digits-over g =
-        scans_not 5 (λ l. rw (digits, lt-ltb 0 (length (digits_of (drop at s))) some, lt-leb (value (digits_of (drop at s))) top (omega (arith, h.value))))
+        scans_not Code.OutOfRange (λ l. rw (digits, lt-ltb 0 (length (digits_of (drop at s))) some, lt-leb (value (digits_of (drop at s))) top (omega (arith, h.value))))
 
-    pub digits_are : r.value ≤ top → Scans (digits_text top) value_told s at (Scan.Is (tell r.value 0 0 r.next))
+    pub digits_are : r.value ≤ top → Scans (digits_text top) value_told s at (Ok (tell r.value 0 0 r.next))
     unfolding digits
     digits_are g =
         let q : value (digits_of (drop at s)) ≡ r.value = omega (arith, h.value) in
@@ -204,12 +212,12 @@ some-digits top t q e = let a = bind_ok (digits 0 top t) _ q e in read-digits 0 
 -- ---- integers
 
 module _ (s : List ℕ) (at : ℕ) (negative : Bool) (top : ℕ) (run : Text) (n : Found (digits_text top) value_told s at run) where
-  pub magnitude_open : eqb (byte_at s run.next) (byte ";") ≡ false → Scans (signed_text top) (signed_told negative) s at (Scan.Not 2)
+  pub magnitude_open : eqb (byte_at s run.next) (byte ";") ≡ false → Scans (signed_text top) (signed_told negative) s at (Err Code.TextUnfit)
   unfolding signed_text
-  magnitude_open e = scans_not 2 (λ l. rw (signed_text, n.is l, expect-no l s run.next (byte ";") [] e))
+  magnitude_open e = scans_not Code.TextUnfit (λ l. rw (signed_text, n.is l, expect-no l s run.next (byte ";") [] e))
 
   pub magnitude-is : (w : ℕ) → w ≡ pattern 64 negative run.content → eqb (byte_at s run.next) (byte ";") ≡ true
-      → Scans (signed_text top) (signed_told negative) s at (Scan.Is (tell w 0 0 (run.next + 1)))
+      → Scans (signed_text top) (signed_told negative) s at (Ok (tell w 0 0 (run.next + 1)))
   unfolding signed_text
   magnitude-is w h e =
       let k : run.next < length s = byte-there s run.next (byte ";") (lit< tt) e in
@@ -221,8 +229,8 @@ module _ (s : List ℕ) (at : ℕ) (negative : Bool) (top : ℕ) (run : Text) (n
         inside = omega arith;
       }
 
-pub magnitude_not : {s : List ℕ} {at c : ℕ} {r : Scan} (negative : Bool) (top : ℕ) → Scans (digits_text top) value_told s at r → r ≡ Scan.Not c
-    → Scans (signed_text top) (signed_told negative) s at r
+pub magnitude_not : {s : List ℕ} {at : ℕ} {c : Code} {r : Scan} (negative : Bool) (top : ℕ) → Scans (digits_text top) value_told s at r → r ≡ Err c
+    → Scans (signed_text top) (signed_told negative) s at (Err c)
 unfolding signed_text
 magnitude_not negative top h e = unfit-part h e (λ l q. rw (signed_text, q))
 
@@ -245,9 +253,9 @@ sign_word minus z zero = refl
 sign_word minus z (suc n) = refl
 
 module _ (s : List ℕ) (at : ℕ) where
-  pub int_open : eqb (byte_at s at) (byte ":") ≡ false → Scans int_text literal_told s at (Scan.Not 2)
+  pub int_open : eqb (byte_at s at) (byte ":") ≡ false → Scans int_text literal_told s at (Err Code.TextUnfit)
   unfolding int_text
-  int_open e = scans_not 2 (λ l. rw (int_text, expect-no l s at (byte ":") [] e))
+  int_open e = scans_not Code.TextUnfit (λ l. rw (int_text, expect-no l s at (byte ":") [] e))
 
   module _ (colon : eqb (byte_at s at) (byte ":") ≡ true) (g : Sign) (from : ℕ) (sg : SignAt s (at + 1) g from) where
     opened : (l : ℕ) → int_text l (drop at s) ≡ (signed_text (integer_limit g) l (drop from s) >>= λ q. kept (literal g q.0) q.1)
@@ -304,12 +312,13 @@ pub number-here : {s : List ℕ} {at from : ℕ} {r : Scan} → from ≡ at → 
 number-here {s} e p h = number_is (omega (arith, e)) (p ∙ ap (λ (k : ℕ). (false, drop k s)) (sym e)) h
 
 -- digits that are found are the number's
-pub number-found : {s : List ℕ} {at from : ℕ} {t : Text} → DigitsFrom s at from → Found (digits_text number_limit) value_told s from t
-    → Scans number value_told s at (Scan.Is t)
-number-found {s} {at} {from} {t} (here e) f =
-    let none = digits-plusless (drop from s) (read-digits 0 number_limit (drop from s) _ (f.is 0)) in
-    number-here e (subst (λ (k : ℕ). plus_of (drop k s) ≡ (false, drop k s)) e none) (scans-is t f)
-number-found {t = t} (behind e p) f = number_is (omega (arith, e)) p (scans-is t f)
+pub number-found : {s : List ℕ} {at from : ℕ} {r : Scan} → DigitsFrom s at from → Scans (digits_text number_limit) value_told s from r → is_ok r ≡ true
+    → Scans number value_told s at r
+number-found {s} {at} {from} {r = Ok t} (here e) h found =
+    let none = digits-plusless (drop from s) (read-digits 0 number_limit (drop from s) _ ((found_of h refl).is 0)) in
+    number-here e (subst (λ (k : ℕ). plus_of (drop k s) ≡ (false, drop k s)) e none) h
+number-found {r = Ok t} (behind e p) h found = number_is (omega (arith, e)) p h
+number-found {r = Err c} d h found = absurd (cc found)
 
 -- a number ends where its text does
 pub number-ends : (s : List ℕ) (at : ℕ) (t : Text) (n : Found number value_told s at t) → t.next ≡ at + length (write_number n.what.0 n.what.1 [])
@@ -321,17 +330,17 @@ number-ends s at t n =
 
 -- ---- counts and ordinals named
 
-pub count_not : {s : List ℕ} {at c : ℕ} {r : Scan} → Scans number value_told s at r → r ≡ Scan.Not c → Scans count_text count_told s at r
+pub count_not : {s : List ℕ} {at : ℕ} {c : Code} {r : Scan} → Scans number value_told s at r → r ≡ Err c → Scans count_text count_told s at (Err c)
 unfolding count_text
 count_not h e = unfit-part h e (λ l q. rw (count_text, q))
 
 module _ (s : List ℕ) (at : ℕ) (run : Text) (n : Found number value_told s at run) where
-  pub count_open : (eqb (byte_at s run.next) (byte ":") && eqb (byte_at s (run.next + 1)) (byte "{")) ≡ false → Scans count_text count_told s at (Scan.Not 2)
+  pub count_open : (eqb (byte_at s run.next) (byte ":") && eqb (byte_at s (run.next + 1)) (byte "{")) ≡ false → Scans count_text count_told s at (Err Code.TextUnfit)
   unfolding count_text
-  count_open e = scans_not 2 (λ l. rw (count_text, n.is l, pair-no s run.next (byte ":") (byte "{") l [] (lit< tt) e))
+  count_open e = scans_not Code.TextUnfit (λ l. rw (count_text, n.is l, pair-no s run.next (byte ":") (byte "{") l [] (lit< tt) e))
 
   pub count-is : (eqb (byte_at s run.next) (byte ":") && eqb (byte_at s (run.next + 1)) (byte "{")) ≡ true
-      → Scans count_text count_told s at (Scan.Is (tell 0 0 run.content (run.next + 2)))
+      → Scans count_text count_told s at (Ok (tell 0 0 run.content (run.next + 2)))
   unfolding count_text
   count-is e =
       let k : run.next + 1 < length s = pair-there s run.next (byte ":") (byte "{") e (lit< tt) in
@@ -344,22 +353,22 @@ module _ (s : List ℕ) (at : ℕ) (run : Text) (n : Found number value_told s a
       }
 
 module _ (s : List ℕ) (at : ℕ) where
-  pub named_colon : eqb (byte_at s at) (byte ":") ≡ false → Scans named_text value_told s at (Scan.Not 2)
+  pub named_colon : eqb (byte_at s at) (byte ":") ≡ false → Scans named_text value_told s at (Err Code.TextUnfit)
   unfolding named_text
-  named_colon e = scans_not 2 (λ l. rw (named_text, expect-no l s at (byte ":") [] e))
+  named_colon e = scans_not Code.TextUnfit (λ l. rw (named_text, expect-no l s at (byte ":") [] e))
 
   module _ (colon : eqb (byte_at s at) (byte ":") ≡ true) where
-    pub named_not : (r : Scan) (c : ℕ) → Scans number value_told s (at + 1) r → r ≡ Scan.Not c → Scans named_text value_told s at r
+    pub named_not : (r : Scan) (c : Code) → Scans number value_told s (at + 1) r → r ≡ Err c → Scans named_text value_told s at (Err c)
     unfolding named_text
     named_not r c h e = unfit-part h e (λ l q. rw (named_text, expect_yes l s at (byte ":") [] (lit< tt) colon, q))
 
     module _ (run : Text) (n : Found number value_told s (at + 1) run) where
-      pub named_open : eqb (byte_at s run.next) (byte ";") ≡ false → Scans named_text value_told s at (Scan.Not 2)
+      pub named_open : eqb (byte_at s run.next) (byte ";") ≡ false → Scans named_text value_told s at (Err Code.TextUnfit)
       unfolding named_text
-      named_open e = scans_not 2
+      named_open e = scans_not Code.TextUnfit
           (λ l. rw (named_text, expect_yes l s at (byte ":") [] (lit< tt) colon, n.is l, expect-no l s run.next (byte ";") [] e))
 
-      pub named-is : eqb (byte_at s run.next) (byte ";") ≡ true → Scans named_text value_told s at (Scan.Is (tell run.content 0 0 (run.next + 1)))
+      pub named-is : eqb (byte_at s run.next) (byte ";") ≡ true → Scans named_text value_told s at (Ok (tell run.content 0 0 (run.next + 1)))
       unfolding named_text
       named-is e =
           let k : run.next < length s = byte-there s run.next (byte ";") (lit< tt) e in

@@ -90,12 +90,11 @@ module _ (s : List ℕ) (from : ℕ) (run : Run) (r : RunAt s from 0 run) (some 
       record {
         semicolon = record {
           part = u ∙ sym part;
-          stop = λ l. sym (byte_in s end h) ∙ eqb-true (byte_at s end) (byte ";") stop;
-          inside = omega (arith, h);
+          stop = sym (byte_in s end h) ∙ eqb-true (byte_at s end) (byte ";") stop;
+          inside = h;
           on = omega (arith, long);
         };
         float = ap is_float part ∙ decimal-float t y some-digits d;
-        inside = h;
       }
 
   pub plain-whole : eqb (byte_at s run.next) (byte ";") ≡ true → PlainEnd s from run.next

@@ -9,6 +9,8 @@ use lib.ListN.{length, get_or, take, drop, length-drop}
 use lib.Seq.{drop-drop, length-take-le}
 use borrow.Author.Tests.{le-leb, lt-leb, eq-eqb, eqb-true}
 use Rattle.decimal.proofs.Decide.{Order, below, above, order, Test, passed, failed, test}
+use Rattle.std.specs.Prelude.{Ok, Err}
+use Rattle.format.specs.declared.codes.Code.{Code}
 use Rattle.format.specs.Bytes.{byte, bytes}
 use Rattle.format.specs.Syntax.{Quoted, write_number}
 use Rattle.format.specs.Limits.{number_limit}
@@ -16,9 +18,8 @@ use Rattle.format.specs.Answer.{Answer, ok, refused, require, ◌>>=◌}
 use Rattle.format.specs.Read.{expect, number, quoted_text}
 use Rattle.format.proofs.Texts.{number_ok}
 use Rattle.scanner.specs.declared.Text.{Text}
-use Rattle.scanner.specs.declared.Scan.{Scan}
 use Rattle.bytes_at.specs.ByteAt.{byte_at}
-use Rattle.scanner.specs.Scans.{Found, Scans, tell, value_told, quoted_told}
+use Rattle.scanner.specs.Scans.{Scan, Found, Scans, tell, value_told, quoted_told}
 use Rattle.bytes_at.proofs.BytesAt.{byte_in, expect_yes, expect-no, pair-first, pair-second, pair-there, pair_yes, pair-no}
 use Rattle.scanner.proofs.Numbers.{scans-is, scans_not, unfit-part, number-ends}
 
@@ -44,12 +45,12 @@ module _ (s : List ℕ) (at close : ℕ) (small : close < 256) where
   abbrev Answers : Scan → Type 0
   Answers r = Scans (λ l. quoted_text l (byte "\"" ∷ close ∷ [])) (quoted_told at) s at r
 
-  pub quoted_colon : eqb (byte_at s at) (byte ":") ≡ false → Answers (Scan.Not 2)
+  pub quoted_colon : eqb (byte_at s at) (byte ":") ≡ false → Answers (Err Code.TextUnfit)
   unfolding quoted_text
-  quoted_colon e = scans_not 2 (λ l. rw (quoted_text, expect-no l s at (byte ":") [] e))
+  quoted_colon e = scans_not Code.TextUnfit (λ l. rw (quoted_text, expect-no l s at (byte ":") [] e))
 
   module _ (colon : eqb (byte_at s at) (byte ":") ≡ true) where
-    pub quoted_not : (r : Scan) (c : ℕ) → Scans number value_told s (at + 1) r → r ≡ Scan.Not c → Answers r
+    pub quoted_not : (r : Scan) (c : Code) → Scans number value_told s (at + 1) r → r ≡ Err c → Answers (Err c)
     unfolding quoted_text
     quoted_not r c h e = unfit-part h e (λ l q. rw (quoted_text, expect_yes l s at (byte ":") [] (lit< tt) colon, q))
 
@@ -88,8 +89,8 @@ module _ (s : List ℕ) (at close : ℕ) (small : close < 256) where
       entered e l = pair_yes s run.next (byte ":") (byte "\"") e l [] (lit< tt) (lit< tt)
 
       -- whatever of its frame a text lacks, the refusal is the same
-      pub quoted_unframed : (opens ≡ true → closes ≡ true → ⊥) → Answers (Scan.Not 2)
-      quoted_unframed never = scans_not 2 (λ l. opened l ∙ go l (test opens))
+      pub quoted_unframed : (opens ≡ true → closes ≡ true → ⊥) → Answers (Err Code.TextUnfit)
+      quoted_unframed never = scans_not Code.TextUnfit (λ l. opened l ∙ go l (test opens))
         where
           closed : (l : ℕ) → opens ≡ true → Test closes → expect l (byte "\"" ∷ close ∷ []) (drop end s) ≡ refused 2 l
           closed l e (failed f) = pair-no s end (byte "\"") close l [] (lit< tt) f
@@ -120,7 +121,7 @@ module _ (s : List ℕ) (at close : ℕ) (small : close < 256) where
         begins : offset ≡ at + 3 + length (write_number n.what.0 run.content [])
         begins = omega (arith, number-ends s (at + 1) run n, ap (λ (m : ℕ). length (write_number n.what.0 m [])) worth)
 
-        pub quoted_is : (w : ℕ) → w ≡ offset → Answers (Scan.Is (tell w run.content 0 (end + 2)))
+        pub quoted_is : (w : ℕ) → w ≡ offset → Answers (Ok (tell w run.content 0 (end + 2)))
         quoted_is w z =
             scans-is (tell w run.content 0 (end + 2)) record {
               what = record { spelling = n.what.0; text = take run.content (drop offset s) };

@@ -3,15 +3,16 @@ use Prim.Native.Nat.{ℕ}
 use mathlib.Core.Path.{◌≡◌, refl, sym, subst}
 use mathlib.Core.List.{List, [], ◌∷◌}
 use borrow.Author.Tests.{ne_eqb}
+use Rattle.std.specs.Prelude.{Err}
+use Rattle.format.specs.declared.codes.Code.{Code}
 use Rattle.format.specs.Bytes.{byte, bytes}
 use Rattle.format.specs.Kind.{Kind, scalar_kinds, tag}
 use Rattle.format.specs.Syntax.{null, bool, int, float, string}
 use Rattle.format.specs.Answer.{ok}
-use Rattle.format.specs.Read.{kind_of, expect, int_text, quoted_text, bool_text, float_text, Reader, scalar_text}
+use Rattle.format.specs.Read.{kind_of, expect, int_text, quoted_text, bool_text, float_text, scalar_text}
 use Rattle.format.proofs.Answers.{bind-map}
-use Rattle.scanner.specs.declared.Scan.{Scan}
-use Rattle.scanner.specs.Scans.{Told, Scans, Answers, null_text, scalar_behind, nothing_told, bool_told, literal_told, float_told}
-use Rattle.scanner.specs.Scans.{quoted_told, scalar_told}
+use Rattle.scanner.specs.Scans.{Scan, Scans, null_text, scalar_behind, nothing_told, bool_told, literal_told, float_told}
+use Rattle.scanner.specs.Scans.{Scan, quoted_told, scalar_told}
 use Rattle.scanner.specs.Parts.{Sure}
 use Rattle.scanner.proofs.Numbers.{scans_not, scans-map, scans-same}
 
@@ -44,20 +45,16 @@ module _ (s : List ℕ) (at b : ℕ) (r : Scan) where
   unfolding scalar_text
   scalar-string e h = of-kind Kind.string (λ l. rw e) (scans-map string (λ l s. refl) (λ x next. refl) h)
 
--- an answer made anew
-pub made : {A : Type 0} {read : Reader A} {told : Told A} {s : List ℕ} {at : ℕ} {r q : Scan} → q ≡ r → Answers read told s at r → Answers read told s at q
-made {read = read} {told = told} {s = s} {at = at} e h = subst (λ (x : Scan). Answers read told s at x) (sym e) h
-
 -- a tag that the code knows
 pub tag_as : (s : List ℕ) (at b : ℕ) (r : Scan) {k : ℕ} → b ≡ k → Sure (scalar_behind k) (scalar_told at) s at r → Sure (scalar_behind b) (scalar_told at) s at r
 tag_as s at b r e h = subst (λ (x : ℕ). Sure (scalar_behind x) (scalar_told at) s at r) (sym e) h
 
 pub scalar-none : (s : List ℕ) (at b : ℕ) → (b ≡ tag Kind.null → ⊥) → (b ≡ tag Kind.bool → ⊥) → (b ≡ tag Kind.int → ⊥) → (b ≡ tag Kind.float → ⊥)
     → (b ≡ tag Kind.string → ⊥)
-    → Scans (scalar_behind b) (scalar_told at) s at (Scan.Not 3)
+    → Scans (scalar_behind b) (scalar_told at) s at (Err Code.TagUnknown)
 unfolding scalar_behind
 scalar-none s at b n o i f t =
-    scans_not 3 (λ l. rw (
+    scans_not Code.TagUnknown (λ l. rw (
       ne_eqb 78 b (λ e. n (sym e)),
       kind_of,
       ne_eqb 98 b (λ e. o (sym e)),

@@ -1,19 +1,25 @@
 -- What the private scans of parts of a text promise; nothing public rests on it.
-use Rattle.std.specs.Prelude.{◌≡◌, List, Bool, true, false, ℕ, ◌-◌, ◌≤◌, ◌<◌, length, get_or, take, drop}
+use Rattle.std.specs.Prelude.{Result, Ok, Err, eqb, ◌≡◌, List, Bool, true, false, ℕ, ◌-◌, ◌≤◌, ◌<◌, length, get_or, take, drop}
 use Rattle.decimal.specs.Complement.{pattern}
 use Rattle.format.specs.Bytes.{byte, bytes}
 use Rattle.format.specs.Syntax.{Sign, unsigned, plus, minus}
 use Rattle.format.specs.Limits.{integer_limit, sign_of, is_float}
 use Rattle.format.specs.Answer.{ok, ◌>>=◌}
 use Rattle.format.specs.Read.{expect, until, digits, Reader}
+use Rattle.bytes_at.specs.ByteAt.{byte_at}
+use Rattle.format.specs.declared.codes.Code.{Code}
 use Rattle.scanner.specs.declared.Text.{Text}
-use Rattle.scanner.specs.declared.Scan.{Scan}
 use Rattle.scanner.specs.declared.number.Front.{Front}
-use Rattle.scanner.specs.Scans.{Told, scan_answer, Found, tell}
+use Rattle.scanner.specs.Scans.{Scan, Told, scan_answer, Found, tell}
 
 -- a scan that is sure of a text that it finds: what it refuses may be one all the same
 pub record Sure {A : Type 0} (read : Reader A) (told : Told A) (s : List ℕ) (at : ℕ) (r : Scan) : Type 0 where
   pub found : (l : ℕ) (t : Text) → scan_answer l r ≡ ok t → Found read told s at t
+
+-- a byte that has to stand at an index: "text not of its kind's form, or ends too soon"
+abbrev pub Expects : (s : List ℕ) → (at b : ℕ) → Result (Unit {0}) Code → Type 0
+Expects s at b (Ok u) = (eqb (byte_at s at) b ≡ true) × (at < length s)
+Expects s at b (Err c) = (eqb (byte_at s at) b ≡ false) × (c ≡ Code.TextUnfit)
 
 -- ---- digits
 
@@ -45,14 +51,18 @@ pub record FrontIs (s : List ℕ) (at : ℕ) (r : Front) : Type 0 where
 
 -- ---- the end of a float text
 
+-- the index of the first semicolon from an index on
 pub record SemicolonAt (s : List ℕ) (at next : ℕ) : Type 0 where
   pub part : until (byte ";") (drop at s) ≡ take (next - at) (drop at s)
-  pub stop : next < length s → get_or s next 0 ≡ byte ";"
-  pub inside : next ≤ length s
+  pub stop : get_or s next 0 ≡ byte ";"
+  pub inside : next < length s
   pub on : at ≤ next
+
+-- no semicolon stands there
+abbrev pub NoSemicolon : (s : List ℕ) (at : ℕ) → Type 0
+NoSemicolon s at = until (byte ";") (drop at s) ≡ drop at s
 
 -- a float text that ends at a semicolon
 pub record PlainEnd (s : List ℕ) (from end : ℕ) : Type 0 where
   pub semicolon : SemicolonAt s from end
   pub float : is_float (take (end - from) (drop from s)) ≡ true
-  pub inside : end < length s

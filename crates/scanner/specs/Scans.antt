@@ -1,5 +1,5 @@
 -- What the public scans promise: the definition's answer from their index on, and what the text tells its node.
-use Rattle.std.specs.Prelude.{◌≡◌, List, [], Bool, ℕ, ◌+◌, ◌-◌, ◌≤◌, ◌<◌, length, drop}
+use Rattle.std.specs.Prelude.{Result, Ok, Err, ◌≡◌, List, [], Bool, ℕ, ◌+◌, ◌-◌, ◌≤◌, ◌<◌, length, drop}
 use Rattle.format.specs.Bytes.{bytes}
 use Rattle.format.specs.Tree.{one}
 use Rattle.format.specs.Kind.{scalar_kinds, tag}
@@ -8,18 +8,23 @@ use Rattle.format.specs.Keys.{integer}
 use Rattle.format.specs.Answer.{Answer, ok, refused, ◌>>=◌}
 use Rattle.format.specs.Read.{Reader, expect, scalar_text, kind_of}
 use Rattle.format.specs.Table.{word}
+use Rattle.format.specs.declared.codes.Code.{Code}
+use Rattle.format.specs.Codes.{number_of}
 use Rattle.scanner.specs.declared.Text.{Text}
-use Rattle.scanner.specs.declared.Scan.{Scan}
 
 -- what a text tells its node, the index after it being `next`
 abbrev pub Told : Type 0 → Type 0
 Told A = A → (next : ℕ) → Text
 
+-- a text, or the number of its refusal; the position is the tag's, which the caller knows
+abbrev pub Scan : Type 0
+Scan = Result Text Code
+
 -- the paper's number and values for each case of the enum, the tag standing at an index that the caller knows:
 -- "A refusal returns its number and a position"; of 2, 3 and 5 that is the letter's
 abbrev pub scan_answer : (at : ℕ) → Scan → Answer Text
-scan_answer at (Scan.Is x) = ok x
-scan_answer at (Scan.Not c) = refused c at
+scan_answer at (Ok x) = ok x
+scan_answer at (Err c) = refused (number_of c) at
 
 -- WHAT A SCAN ANSWERS behind a tag at `l`: what is read from `at` on, as words and the index behind it
 unfoldable pub text_answer : {A : Type 0} → Reader A → Told A → (s : List ℕ) → (at l : ℕ) → Answer Text

@@ -2,18 +2,16 @@
 ghost use Rattle.format.specs.Read.{bool_text};
 ghost use Rattle.scanner.specs.Scans.{Answers, null_text, nothing_told, bool_told};
 
-use crate::{Scan, Text};
-use bytes_at::{byte_is, bytes_are};
-use format::codes::TEXT_UNFIT;
+use crate::{Text, expect};
+use bytes_at::bytes_are;
+use format::codes::Code;
 
 // The semicolon of an N.
-pub(crate) fn null(source: &[u8], at: usize) -> Scan
+pub(crate) fn null(source: &[u8], at: usize) -> Result<Text, Code>
     ensures { Answers null_text nothing_told source.now at result }
 {
-    if !byte_is(source, at, b';') {
-        return Scan::Not(TEXT_UNFIT);
-    }
-    Scan::Is(Text {
+    expect(source, at, b';')?;
+    Ok(Text {
         content: 0,
         size: 0,
         link: 0,
@@ -22,14 +20,12 @@ pub(crate) fn null(source: &[u8], at: usize) -> Scan
 }
 
 // The bit of a b.
-pub(crate) fn boolean(source: &[u8], at: usize) -> Scan
+pub(crate) fn boolean(source: &[u8], at: usize) -> Result<Text, Code>
     ensures { Answers bool_text bool_told source.now at result }
 {
-    if !byte_is(source, at, b':') {
-        return Scan::Not(TEXT_UNFIT);
-    }
+    expect(source, at, b':')?;
     if bytes_are(source, at + 1, b'0', b';') {
-        return Scan::Is(Text {
+        return Ok(Text {
             content: 0,
             size: 0,
             link: 0,
@@ -37,12 +33,12 @@ pub(crate) fn boolean(source: &[u8], at: usize) -> Scan
         });
     }
     if bytes_are(source, at + 1, b'1', b';') {
-        return Scan::Is(Text {
+        return Ok(Text {
             content: 1,
             size: 0,
             link: 0,
             next: at + 3,
         });
     }
-    Scan::Not(TEXT_UNFIT)
+    Err(Code::TextUnfit)
 }

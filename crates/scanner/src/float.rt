@@ -1,45 +1,40 @@
 // Float texts. The index is the one behind the tag.
-ghost use Rattle.std.specs.Prelude.{◌≤◌, ◌<◌, length};
+ghost use Rattle.std.specs.Prelude.{◌≤◌, length, MatchOption, IfSome};
 ghost use Rattle.format.specs.Read.{float_text};
 ghost use Rattle.scanner.specs.Scans.{Answers, float_told};
-ghost use Rattle.scanner.specs.Parts.{SemicolonAt, PlainEnd};
+ghost use Rattle.scanner.specs.Parts.{SemicolonAt, NoSemicolon, PlainEnd};
 
-use crate::{Scan, Text};
+use crate::{Text, expect};
 use bytes_at::byte_is;
 use floats::is_float;
-use format::codes::TEXT_UNFIT;
+use format::codes::Code;
 
-// The index of the next semicolon, or the source's length.
-fn semicolon_at(source: &[u8], at: usize) -> usize
+// The index of the next semicolon, if one stands there.
+fn semicolon_at(source: &[u8], at: usize) -> Option<usize>
     requires { at ≤ length source.now }
-    ensures { SemicolonAt source.now at result }
+    ensures { MatchOption result (NoSemicolon source.now at) (SemicolonAt source.now at) }
 {
-    let mut i = at;
-    while i < source.len() {
+    for i in at..source.len() {
         if source[i] == b';' {
-            return i;
+            return Some(i);
         }
-        i += 1;
     }
-    i
+    None
 }
 
 // A float text, up to its semicolon.
-pub(crate) fn float(source: &[u8], at: usize) -> Scan
+pub(crate) fn float(source: &[u8], at: usize) -> Result<Text, Code>
     ensures { Answers float_text (float_told at) source.now at result }
 {
-    if !byte_is(source, at, b':') {
-        return Scan::Not(TEXT_UNFIT);
-    }
+    expect(source, at, b':')?;
     let from = at + 1;
-    let end = semicolon_at(source, from);
+    let Some(end) = semicolon_at(source, from) else {
+        return Err(Code::TextUnfit);
+    };
     if !is_float(&source[from..end]) {
-        return Scan::Not(TEXT_UNFIT);
+        return Err(Code::TextUnfit);
     }
-    if source.len() <= end {
-        return Scan::Not(TEXT_UNFIT);
-    }
-    Scan::Is(Text {
+    Ok(Text {
         content: from as u64,
         size: (end - from) as u64,
         link: 0,
@@ -47,25 +42,26 @@ pub(crate) fn float(source: &[u8], at: usize) -> Scan
     })
 }
 
-// Where digits with at most one point end at a semicolon; or the index itself, where they do not.
-pub(crate) fn plain_end(source: &[u8], from: usize) -> usize
-    ensures { from < result → PlainEnd source.now from result }
+// Where digits with at most one point end at a semicolon, if such stand there.
+#[inline(always)]
+pub fn plain_end(source: &[u8], from: usize) -> Option<usize>
+    ensures { IfSome result (PlainEnd source.now from) }
 {
     let whole = decimal::run_at(source, from, 0);
     let point = whole.next;
     if point == from {
-        return from;
+        return None;
     }
     if byte_is(source, point, b';') {
-        return point;
+        return Some(point);
     }
     if !byte_is(source, point, b'.') {
-        return from;
+        return None;
     }
     let fraction = decimal::run_at(source, point + 1, 0);
     let end = fraction.next;
     if byte_is(source, end, b';') {
-        return end;
+        return Some(end);
     }
-    from
+    None
 }

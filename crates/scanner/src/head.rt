@@ -5,33 +5,24 @@ ghost use Rattle.scanner.specs.Scans.{Answers, head_told};
 
 use crate::number::count;
 use crate::quoted::quoted;
-use crate::{Scan, Text};
-use bytes_at::byte_is;
-use format::codes::TEXT_UNFIT;
+use crate::{Text, expect};
+use format::codes::Code;
 
 // An array's count of pairs.
-pub fn array(source: &[u8], at: usize) -> Scan
+pub fn array(source: &[u8], at: usize) -> Result<Text, Code>
     ensures { Answers (head_text true) (head_told at) source.now at result }
 {
-    if !byte_is(source, at, b':') {
-        return Scan::Not(TEXT_UNFIT);
-    }
+    expect(source, at, b':')?;
     count(source, at + 1)
 }
 
 // An object's class name and its count of pairs.
-pub fn object(source: &[u8], at: usize) -> Scan
+pub fn object(source: &[u8], at: usize) -> Result<Text, Code>
     ensures { Answers (head_text false) (head_told at) source.now at result }
 {
-    let named = quoted(source, at, b':');
-    let Scan::Is(name) = named else {
-        return named;
-    };
-    let counted = count(source, name.next);
-    let Scan::Is(pairs) = counted else {
-        return counted;
-    };
-    Scan::Is(Text {
+    let name = quoted(source, at, b':')?;
+    let pairs = count(source, name.next)?;
+    Ok(Text {
         content: name.content,
         size: name.size,
         link: pairs.link,

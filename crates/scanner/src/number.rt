@@ -4,9 +4,10 @@ ghost use Rattle.format.specs.Read.{number, int_text, count_text, named_text};
 ghost use Rattle.scanner.specs.Scans.{Scans, Answers, value_told, literal_told, count_told};
 ghost use Rattle.scanner.specs.Parts.{digits_text, signed_text, signed_told, FrontIs};
 
-use crate::{Scan, Text};
+use crate::{Text, expect};
 use bytes_at::{byte_is, bytes_are};
-use format::codes::{OUT_OF_RANGE, TEXT_UNFIT};
+use decimal::Signed;
+use format::codes::Code;
 use format::limits::NUMBER_LIMIT;
 
 // The greatest magnitudes of an integer: with no sign or a `+`, and with a `-`.
@@ -15,7 +16,8 @@ pub(crate) const POSITIVE_LIMIT: u64 = 9223372036854775807;
 const NEGATIVE_LIMIT: u64 = 9223372036854775808;
 
 // A run of digits of at most `top`: it "is taken whole, then 5 is tested".
-fn digits(source: &[u8], at: usize, top: u64) -> Scan
+#[inline(always)]
+fn digits(source: &[u8], at: usize, top: u64) -> Result<Text, Code>
     requires { top < 2 ^ 64 - 1 }
     ensures { Scans (digits_text top) value_told source.now at result }
 {
@@ -23,12 +25,12 @@ fn digits(source: &[u8], at: usize, top: u64) -> Scan
     let next = run.next;
     let value = run.value;
     if next == at {
-        return Scan::Not(TEXT_UNFIT);
+        return Err(Code::TextUnfit);
     }
     if top < value {
-        return Scan::Not(OUT_OF_RANGE);
+        return Err(Code::OutOfRange);
     }
-    Scan::Is(Text {
+    Ok(Text {
         content: value,
         size: 0,
         link: 0,
@@ -37,20 +39,19 @@ fn digits(source: &[u8], at: usize, top: u64) -> Scan
 }
 
 // The digits of an integer behind its sign, and the semicolon.
-pub(crate) fn magnitude(source: &[u8], at: usize, negative: bool, top: u64) -> Scan
+#[inline(always)]
+pub(crate) fn magnitude(source: &[u8], at: usize, negative: bool, top: u64) -> Result<Text, Code>
     requires { top < 2 ^ 64 - 1 }
     ensures { Scans (signed_text top) (signed_told negative) source.now at result }
 {
-    let scan = digits(source, at, top);
-    let Scan::Is(run) = scan else {
-        return scan;
-    };
+    let run = digits(source, at, top)?;
     let next = run.next;
-    if !byte_is(source, next, b';') {
-        return Scan::Not(TEXT_UNFIT);
-    }
-    Scan::Is(Text {
-        content: decimal::pattern_of(negative, run.content),
+    expect(source, next, b';')?;
+    Ok(Text {
+        content: u64::from(Signed {
+            negative,
+            magnitude: run.content,
+        }),
         size: 0,
         link: 0,
         next: next + 1,
@@ -58,6 +59,7 @@ pub(crate) fn magnitude(source: &[u8], at: usize, negative: bool, top: u64) -> S
 }
 
 // An integer's sign at an index: the index behind it, whether it is a minus, and the greatest magnitude that it allows.
+// No Option: without a sign all three mean something too.
 #[derive(Clone, Copy)]
 pub struct Front {
     pub from: usize,
@@ -91,32 +93,23 @@ fn sign_at(source: &[u8], at: usize) -> Front
 }
 
 // An integer.
-pub(crate) fn int(source: &[u8], at: usize) -> Scan
+pub(crate) fn int(source: &[u8], at: usize) -> Result<Text, Code>
     ensures { Answers int_text literal_told source.now at result }
 {
-    if !byte_is(source, at, b':') {
-        return Scan::Not(TEXT_UNFIT);
-    }
+    expect(source, at, b':')?;
     let front = sign_at(source, at + 1);
     magnitude(source, front.from, front.negative, front.top)
 }
 
 // A *number* of the grammar, which "may have one leading `+`". The plus is looked for only where no digit stands: hardly a number has one, and its digits
 // are scanned in one place, so that LLVM keeps them in line (in_line.rt).
-pub(crate) fn number(source: &[u8], at: usize) -> Scan
+pub(crate) fn number(source: &[u8], at: usize) -> Result<Text, Code>
     ensures { Scans number value_told source.now at result }
 {
     let mut from = at;
     loop {
         let scan = digits(source, from, NUMBER_LIMIT);
-        let Scan::Not(_) = scan else {
-            return scan;
-        };
-        if from != at {
-            return scan;
-        }
-        let plus = byte_is(source, at, b'+');
-        if !plus {
+        if scan.is_ok() || from != at || !byte_is(source, at, b'+') {
             return scan;
         }
         from = at + 1;
@@ -124,18 +117,15 @@ pub(crate) fn number(source: &[u8], at: usize) -> Scan
 }
 
 // A count of pairs and the opening brace, from behind the colon on.
-pub(crate) fn count(source: &[u8], at: usize) -> Scan
+pub(crate) fn count(source: &[u8], at: usize) -> Result<Text, Code>
     ensures { Answers count_text count_told source.now at result }
 {
-    let scan = number(source, at);
-    let Scan::Is(run) = scan else {
-        return scan;
-    };
+    let run = number(source, at)?;
     let next = run.next;
     if !bytes_are(source, next, b':', b'{') {
-        return Scan::Not(TEXT_UNFIT);
+        return Err(Code::TextUnfit);
     }
-    Scan::Is(Text {
+    Ok(Text {
         content: 0,
         size: 0,
         link: run.content,
@@ -144,21 +134,14 @@ pub(crate) fn count(source: &[u8], at: usize) -> Scan
 }
 
 // The ordinal that a reference names.
-pub fn named(source: &[u8], at: usize) -> Scan
+pub fn named(source: &[u8], at: usize) -> Result<Text, Code>
     ensures { Answers named_text value_told source.now at result }
 {
-    if !byte_is(source, at, b':') {
-        return Scan::Not(TEXT_UNFIT);
-    }
-    let scan = number(source, at + 1);
-    let Scan::Is(run) = scan else {
-        return scan;
-    };
+    expect(source, at, b':')?;
+    let run = number(source, at + 1)?;
     let next = run.next;
-    if !byte_is(source, next, b';') {
-        return Scan::Not(TEXT_UNFIT);
-    }
-    Scan::Is(Text {
+    expect(source, next, b';')?;
+    Ok(Text {
         content: run.content,
         size: 0,
         link: 0,

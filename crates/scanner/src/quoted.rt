@@ -5,26 +5,20 @@ ghost use Rattle.format.specs.Read.{quoted_text};
 ghost use Rattle.scanner.specs.Scans.{Answers, quoted_told};
 
 use crate::number::number;
-use crate::{Scan, Text};
-use bytes_at::byte_is;
-use format::codes::TEXT_UNFIT;
+use crate::{Text, expect};
+use format::codes::Code;
 
 // A length and so many bytes between quotes, "of any kind": the length alone says where they end.
-pub(crate) fn quoted(source: &[u8], at: usize, close: u8) -> Scan
+pub(crate) fn quoted(source: &[u8], at: usize, close: u8) -> Result<Text, Code>
     ensures { Answers (λ l. quoted_text l (byte "\"" ∷ close ∷ [])) (quoted_told at) source.now at result }
 {
-    if !byte_is(source, at, b':') {
-        return Scan::Not(TEXT_UNFIT);
-    }
-    let scan = number(source, at + 1);
-    let Scan::Is(run) = scan else {
-        return scan;
-    };
+    expect(source, at, b':')?;
+    let run = number(source, at + 1)?;
     let colon = run.next;
     let size = run.content as usize;
     // One test of the room for all that follows: each refusal is the same, and LLVM keeps a function of this size in line (in_line.rt).
     if source.len() - colon < size + 4 {
-        return Scan::Not(TEXT_UNFIT);
+        return Err(Code::TextUnfit);
     }
     let offset = colon + 2;
     let end = offset + size;
@@ -33,9 +27,9 @@ pub(crate) fn quoted(source: &[u8], at: usize, close: u8) -> Scan
         || source[end] != b'"'
         || source[end + 1] != close
     {
-        return Scan::Not(TEXT_UNFIT);
+        return Err(Code::TextUnfit);
     }
-    Scan::Is(Text {
+    Ok(Text {
         content: offset as u64,
         size: run.content,
         link: 0,

@@ -13,23 +13,13 @@ use format::table::WIDTH;
 pub fn clear(table: &mut [u64])
     ensures { table.new ≡ cleared table.old }
 {
-    let mut i = 0;
-    while i < table.len() {
-        table[i] = 0;
-        i += 1;
-    }
+    table.fill(0);
 }
 
-// Word 0 of a node; 0 where the table has none.
+// Word 0 of a node; 0 where the table has none, and no Option: so says `word_at`, a definition for any table.
 pub fn tag_at(table: &[u64], node: usize) -> u64
     ensures { result ≡ word_at table.now node tag_word }
 {
-    if table.len() <= node {
-        return 0;
-    }
-    let k = node * WIDTH;
-    if table.len() <= k {
-        return 0;
-    }
-    table[k]
+    let tag = node.saturating_mul(WIDTH);
+    table.get(tag).copied().unwrap_or(0)
 }

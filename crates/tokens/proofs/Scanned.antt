@@ -9,19 +9,20 @@ use mathlib.Core.List.{List, ◌∷◌}
 use lib.ListN.{length, get_or, drop, drop_of_length-le}
 use lib.Seq.{drop-cons}
 use borrow.Author.Tests.{ne_eqb}
+use Rattle.std.specs.Prelude.{Ok, Err}
+use Rattle.format.specs.declared.codes.Code.{Code}
 use Rattle.format.specs.Bytes.{byte}
 use Rattle.format.specs.Kind.{Kind, tag}
 use Rattle.format.specs.Syntax.{object_ref, variable_ref}
 use Rattle.format.specs.Read.{named_text, head_text}
-use Rattle.scanner.specs.declared.Scan.{Scan}
-use Rattle.scanner.specs.Scans.{Scans, scalar_behind, tell, value_told, scalar_told, head_told}
+use Rattle.scanner.specs.Scans.{Scan, Scans, scalar_behind, tell, value_told, scalar_told, head_told}
 use Rattle.scanner.proofs.Numbers.{scans-is, scans_not, scans-from, scans-map}
 use Rattle.tokens.specs.Tokens.{scalar, closing, opening_of, reference_of, token_behind, read_token, token_told}
 
 module _ (s : List ℕ) (at : ℕ) where
-  pub token-none : length s ≤ at → Scans read_token (token_told at) s at (Scan.Not 2)
+  pub token-none : length s ≤ at → Scans read_token (token_told at) s at (Err Code.TextUnfit)
   unfolding read_token
-  token-none h = scans_not 2 (λ l. rw (drop_of_length-le s {i = at} h))
+  token-none h = scans_not Code.TextUnfit (λ l. rw (drop_of_length-le s {i = at} h))
 
   module _ (b : ℕ) (h : at < length s) (e : get_or s at 0 ≡ b) where
     tagged : drop at s ≡ b ∷ drop (at + 1) s
@@ -32,7 +33,7 @@ module _ (s : List ℕ) (at : ℕ) where
     unfolding read_token
     behind r h = scans-from h (omega arith) (λ l. rw tagged)
 
-    pub token-closing : b ≡ byte "}" → Scans read_token (token_told at) s at (Scan.Is (tell 0 0 0 (at + 1)))
+    pub token-closing : b ≡ byte "}" → Scans read_token (token_told at) s at (Ok (tell 0 0 0 (at + 1)))
     unfolding read_token token_behind
     token-closing i = scans-is (tell 0 0 0 (at + 1)) record { what = closing; is = λ l. rw (tagged, i); tells = refl; on = omega arith; inside = omega arith }
 

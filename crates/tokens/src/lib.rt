@@ -6,24 +6,24 @@
 ghost use Rattle.scanner.specs.Scans.{Answers};
 ghost use Rattle.tokens.specs.Tokens.{read_token, token_told};
 
-use format::codes::TEXT_UNFIT;
+use format::codes::Code;
 use format::kind::Kind;
+use scanner::Text;
 use scanner::head::{array, object};
 use scanner::number::named;
 use scanner::scalar::scalar;
-use scanner::{Scan, Text};
 
 // The token at an index.
-pub fn token(source: &[u8], at: usize) -> Scan
+pub fn token(source: &[u8], at: usize) -> Result<Text, Code>
     ensures { Answers read_token (token_told at) source.now at result }
 {
     if source.len() <= at {
-        return Scan::Not(TEXT_UNFIT);
+        return Err(Code::TextUnfit);
     }
     let tag = source[at];
     match tag {
         b'}' => {
-            return Scan::Is(Text {
+            return Ok(Text {
                 content: 0,
                 size: 0,
                 link: 0,

@@ -5,7 +5,7 @@ ghost use Rattle.format.specs.Reading.{terms_of};
 ghost use Rattle.editor.specs.Promise.{writing_answer};
 ghost use Rattle.tonschnecke.specs.Promise.{writing_of, TonWrites};
 
-use editor::Writing;
+use format::codes::Refusal;
 
 // What a service that writes a plan answers. Code 0: written, and `at` is 0; a refusal has length 0.
 #[repr(C)]
@@ -17,20 +17,23 @@ pub struct TonWriting {
 }
 
 // The answer as C gets it.
-fn as_struct(writing: Writing) -> TonWriting
-    ensures { result ≡ writing_of (writing_answer writing) }
-{
-    match writing {
-        Writing::Written { length } => TonWriting {
-            code: 0,
-            at: 0,
-            length: length as u64,
-        },
-        Writing::Refused { code, at } => TonWriting {
-            code: code as u64,
-            at: at as u64,
-            length: 0,
-        },
+#[tactic(auto, unfolding(crate::specs::Promise::writing_of, editor::specs::Promise::writing_answer))]
+impl From<Result<usize, Refusal>> for TonWriting {
+    ghost from_gives = { λ writing r. r ≡ writing_of (writing_answer writing) };
+
+    fn from(writing: Result<usize, Refusal>) -> TonWriting {
+        match writing {
+            Ok(length) => TonWriting {
+                code: 0,
+                at: 0,
+                length: length as u64,
+            },
+            Err(Refusal { code, at }) => TonWriting {
+                code: u64::from(u8::from(code)),
+                at: at as u64,
+                length: 0,
+            },
+        }
     }
 }
 
@@ -40,7 +43,7 @@ pub extern "C" fn ton_canonicalize(source: &[u8], table: &mut [u64], out: &mut [
     ensures { TonWrites (terms_of table.old) (canonical_bytes (terms_of table.old) (length out.old) source.now)
         source.now table.old table.new out.old out.new result }
 {
-    as_struct(editor::canonicalize(source, table, out))
+    TonWriting::from(editor::canonicalize(source, table, out))
 }
 
 // Puts one pair into an array of a plan, and leaves the table that reading the plan written leaves. A refusal writes nothing, and makes every word of the
@@ -59,5 +62,5 @@ pub extern "C" fn ton_insert(
         array_node pair_index key.now value.now)
         source.now table.old table.new out.old out.new result }
 {
-    as_struct(editor::insert(source, array_node, pair_index, key, value, table, out))
+    TonWriting::from(editor::insert(source, array_node, pair_index, key, value, table, out))
 }

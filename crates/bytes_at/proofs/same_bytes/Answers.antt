@@ -3,4 +3,4 @@ use Rattle.bytes_at.proofs.BytesAt.{differ_length}
 use Rattle.bytes_at.proofs.same_bytes.Goals as goal
 
 pub returns-then-a-b : goal.returns-then-a-b
-returns-then-a-b c = let start = c in differ_length start.args.a.now start.args.b.now c.if-a-b.true
+returns-then-a-b c = differ_length c.args.a.now c.args.b.now c.if-a-b.true

@@ -2,10 +2,10 @@
 use Rattle.reader.proofs.WholeSteps as whole
 use Rattle.reader.proofs.read.Goals as goal
 
-pub returns-in-Refused : goal.returns-in-Refused
-returns-in-Refused c = let read = c.read_by_length-step in
-    whole.reads-refused _ _ _ _ read.result _ _ read.ensures c.in-Refused.is c.clear.ensures read.auto.table
+pub returns-in-Err : goal.returns-in-Err
+returns-in-Err c = let read = c.read_by_length in
+    whole.reads-refused _ _ _ _ read.result _ read.ensures c.in-Err.is c.clear.ensures read.auto.table
 
-pub returns-in-Done : goal.returns-in-Done
-returns-in-Done c = let read = c.read_by_length-step in
-    whole.reads-accepted _ _ _ c.args.table.now read.result _ read.ensures c.in-Done.is
+pub returns-in-Ok : goal.returns-in-Ok
+returns-in-Ok c = let read = c.read_by_length in
+    whole.reads-accepted _ _ _ c.args.table.now read.result _ read.ensures c.in-Ok.is

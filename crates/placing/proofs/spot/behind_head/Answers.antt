@@ -4,7 +4,7 @@ use Rattle.placing.proofs.Gaps as gaps
 use Rattle.placing.proofs.spot.behind_head.Goals as goal
 
 pub returns-in_default : goal.returns-in_default
-returns-in_default c = λ h. absurd (gaps.head-fit h (unfit-of c.token-scan.ensures.scans c.in_default.is))
+returns-in_default c = λ h. absurd (gaps.head-fit h (unfit-of c.token.ensures.scans c.in_default.is))
 
 pub returns : goal.returns
-returns c = λ h. gaps.behind-head h _ (found_of c.token-scan.ensures.scans c.in-Is.is)
+returns c = λ h. gaps.behind-head h _ (found_of c.token.ensures.scans c.in-Ok.is)

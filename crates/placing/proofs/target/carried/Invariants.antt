@@ -1,11 +1,8 @@
 -- `placing::target::carried` meets its contract. Assumes nothing.
 use mathlib.Core.Path.{◌≡◌}
-use Prim.Native.Nat.{◌-◌, ◌≤◌}
+use Prim.Native.Nat.{◌≤◌}
 use Rattle.placing.specs.Words.{carriers}
 use Rattle.placing.proofs.target.carried.Given as goal
 
 abbrev pub invariant-loop-i : goal.invariant-loop-i
-invariant-loop-i l = (l.i ≤ l.count) × (l.taken ≡ carriers l.table l.first l.i) × (l.taken ≤ l.i)
-
-abbrev pub decreases-loop-i : goal.decreases-loop-i
-decreases-loop-i l = l.count - l.i
+invariant-loop-i l = (l.taken ≡ carriers l.table l.first l.i) × (l.taken ≤ l.i)

@@ -1,17 +1,17 @@
 -- `placing::texts::exact` meets its contract. Assumes nothing.
-use mathlib.Core.Path.{sym, subst}
-use Rattle.placing.specs.PairTexts.{Exact}
+use mathlib.Core.Path.{sym, ◌∙◌}
 use Rattle.placing.proofs.TextLaws as laws
 use Rattle.placing.proofs.texts.exact.Goals as goal
 
-pub returns-in_default : goal.returns-in_default
-returns-in_default c = let unfit = c.in_default.is in
-    subst (Exact _) (sym unfit) (laws.none-unfit _ c.if-text-eq0.false c.scalar-scan.ensures.scans unfit)
+pub returns-in_err-told : goal.returns-in_err-told
+returns-in_err-told c = let first = c.in_ok-tag.ensures.item.3 in
+    rw c.from_residual-in_err-told.ensures
+    (laws.none-unfit _ first.0 (first.1 0) c.scalar.ensures.scans (sym c.ok.ensures.value ∙ c.in_err-told.was))
 
 pub returns-then-told-text : goal.returns-then-told-text
-returns-then-told-text c = laws.none_longer _ c.if-text-eq0.false c.scalar-scan.ensures.scans c.in-Is.is
-    c.if-told-text.true
+returns-then-told-text c = let first = c.in_ok-tag.ensures.item.3 in
+    laws.none_longer _ first.0 (first.1 0) c.scalar.ensures.scans (laws.told_ok _ _ (sym c.ok.ensures.value ∙ c.in_ok-told.was)) c.if-told-text.true
 
 pub returns : goal.returns
-returns c = laws.is-scalar _ c.if-text-eq0.false c.scalar-scan.ensures.scans c.in-Is.is
-    c.if-told-text.false
+returns c = let first = c.in_ok-tag.ensures.item.3 in
+    laws.is-scalar _ first.0 (first.1 0) c.scalar.ensures.scans (laws.told_ok _ _ (sym c.ok.ensures.value ∙ c.in_ok-told.was)) c.if-told-text.false

@@ -5,7 +5,7 @@ use Rattle.rewriting.proofs.Rewritten as rewritten
 use Rattle.rewriting.proofs.rewrite.rewrite.Given as goal
 
 abbrev pub invariant-loop-at : goal.invariant-loop-at
-invariant-loop-at l = rewritten.Rewriting l.table l.source l.first l.from l.to l.change l.w l.initial.out l.kept l.next l.end l.out
+invariant-loop-at l = rewritten.Rewriting l.table l.source l.from l.to l.change l.initial.out l.kept l.behind l.next l.out
 
 abbrev pub decreases-loop-at : goal.decreases-loop-at
-decreases-loop-at l = length l.source - l.kept
+decreases-loop-at l = length l.source - l.behind

@@ -1,72 +1,41 @@
 -- `rewriting::shortest::shortest` meets its contract. Assumes nothing.
-use Rattle.std.proofs.Common.{rules}
-use Rattle.rewriting.proofs.Outputs.{puts_as, within_as}
+use Prim.Native.Nat.{◌+◌, ◌-◌}
 use native.Mathlib.Omega.{arith}
+use Rattle.std.proofs.Common.{rules}
+use Rattle.rewriting.proofs.Outputs.{appends_then, appends_part}
 use Rattle.rewriting.proofs.Spelled as spelled
-use Rattle.rewriting.proofs.Spelled.{more_of}
 use Rattle.rewriting.proofs.shortest.shortest.Goals as goal
 
 -- the texts first: what an edit breaks is seen there
 
 pub returns-in_default : goal.returns-in_default
 returns-in_default c =
-    puts_as (spelled.copied_text c.args.source.now c.args.at c.args.text (search rules) (search rules) (search rules) (search rules) (search rules))
-    c.copy.ensures
+    spelled.copies
+    (spelled.copied_text c.args.source.now c.args.at c.args.text (search rules) (search rules) (search rules) (search rules) (search rules))
+    c.requires.1 c.requires.0.inside (appends_part c.args.source.now (c.args.at + 2) c.args.text.next c.append-in_default.ensures)
 
 pub returns-in-105 : goal.returns-in-105
-returns-in-105 c = puts_as (spelled.int-text _ _ _ c.in-105.is) c.signed.ensures
+returns-in-105 c = record { numbers = _; wrote = c.integer.ensures; split = spelled.int-text _ _ _ c.in-105.is; inside = omega arith }
 
 pub returns-in-115 : goal.returns-in-115
-returns-in-115 c = puts_as (spelled.string-text _ _ _ c.in-115.is) c.numbered.ensures
+returns-in-115 c = record {
+  numbers = _;
+  wrote = c.number.ensures;
+  split = spelled.string-text _ _ _ c.in-115.is;
+  inside = omega (arith, (c.requires.0.string c.in-115.is).to);
+}
 
 pub returns-in-97 : goal.returns-in-97
-returns-in-97 c = puts_as (spelled.array-text _ _ _ c.in-97.is) c.numbered-in-97.ensures
+returns-in-97 c = record { numbers = _; wrote = c.number-in-97.ensures; split = spelled.array-text _ _ _ c.in-97.is; inside = omega arith }
 
 pub returns-in-79 : goal.returns-in-79
-returns-in-79 c = puts_as (spelled.object-text _ _ _ c.in-79.is) c.object_head.ensures
+returns-in-79 c = let x = c.args.text in record {
+  numbers = _;
+  wrote = appends_then c.number-in-79.ensures
+      (appends_then (appends_part c.args.source.now (x.content - 2) (x.content + x.size + 2) c.append.ensures) c.number-in-79-2.ensures);
+  split = spelled.object-parts _ _ _ c.in-79.is;
+  inside = omega arith;
+}
 
 pub returns-in-114 : goal.returns-in-114
-returns-in-114 c = puts_as (spelled.reference-text _ _ _ c.in-114.is) c.numbered-in-114.ensures
-
-pub copy-requires : goal.copy-requires
-copy-requires c = let pre = c.requires in (
-  omega (arith, pre.0.on),
-  pre.0.inside,
-  within_as (spelled.copied_text c.args.source.now c.args.at c.args.text (search rules) (search rules) (search rules) (search rules) (search rules)) pre.1,
-)
-
-pub signed-requires : goal.signed-requires
-signed-requires c = let pre = c.requires in
-    (pre.0.int c.in-105.is, pre.0.inside, within_as (spelled.int-text _ _ _ c.in-105.is) pre.1)
-
-pub numbered-requires : goal.numbered-requires
-numbered-requires c = let pre = c.requires in
-    let is-string = c.in-115.is in
-    let quoted = pre.0.string is-string in (
-      omega (arith, pre.0.inside, quoted.from, quoted.to),
-      omega (arith, quoted.to),
-      pre.0.inside,
-      within_as (spelled.string-text _ _ _ is-string) pre.1,
-    )
-
-pub numbered-requires-in-97 : goal.numbered-requires-in-97
-numbered-requires-in-97 c = let pre = c.requires in
-    let is-array = c.in-97.is in (
-      omega (arith, pre.0.inside, pre.0.more (λ e. omega (arith, e, is-array))),
-      omega arith,
-      pre.0.inside,
-      within_as (spelled.array-text _ _ _ is-array) pre.1,
-    )
-
-pub object_head-requires : goal.object_head-requires
-object_head-requires c = let pre = c.requires in
-    (pre.0, pre.0.object c.in-79.is, within_as (spelled.object-text _ _ _ c.in-79.is) pre.1)
-
-pub numbered-requires-in-114 : goal.numbered-requires-in-114
-numbered-requires-in-114 c = let pre = c.requires in
-    let refers = c.in-114.is in (
-      omega (arith, pre.0.inside, more_of pre.0 refers),
-      omega arith,
-      pre.0.inside,
-      within_as (spelled.reference-text _ _ _ refers) pre.1,
-    )
+returns-in-114 c = record { numbers = _; wrote = c.number-in-114.ensures; split = spelled.reference-text _ _ _ c.in-114.is; inside = omega arith }

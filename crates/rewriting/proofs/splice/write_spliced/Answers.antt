@@ -1,34 +1,14 @@
 -- `rewriting::splice::write_spliced` meets its contract. Assumes nothing.
-use native.Mathlib.Omega.{arith}
+use Prim.Native.Nat.{◌+◌, ◌-◌}
+use Rattle.rewriting.proofs.Outputs.{appends_then, appends_part}
 use Rattle.rewriting.proofs.SplicedTexts as texts
 use Rattle.rewriting.proofs.splice.write_spliced.Goals as goal
 
 -- the text first: what an edit breaks is seen there
 
 pub returns : goal.returns
-returns c = texts.all-put c.requires c.args.table.now c.rewrite-before.ensures c.numbered-counted.ensures c.rewrite-upto.ensures c.copy-keyed.ensures
-    c.copy-valued.ensures c.rewrite.ensures
-
-pub rewrite-before-requires : goal.rewrite-before-requires
-rewrite-before-requires c = texts.front-within c.requires c.args.table.now
-
-pub numbered-counted-requires : goal.numbered-counted-requires
-numbered-counted-requires c = let room = texts.room c.requires in
-    (omega (arith, room.some, room.long, room.inside), omega arith, room.inside, texts.head-within c.requires c.args.table.now c.rewrite-before.ensures)
-
-pub rewrite-upto-requires : goal.rewrite-upto-requires
-rewrite-upto-requires c = texts.middle-within c.requires c.args.table.now c.rewrite-before.ensures c.numbered-counted.ensures
-
-pub copy-keyed-requires : goal.copy-keyed-requires
-copy-keyed-requires c = (omega arith, omega arith, texts.key-within c.requires c.args.table.now c.rewrite-before.ensures c.numbered-counted.ensures c.rewrite-upto.ensures)
-
-pub copy-valued-requires : goal.copy-valued-requires
-copy-valued-requires c = (
-  omega arith,
-  omega arith,
-  texts.value-within c.requires c.args.table.now c.rewrite-before.ensures c.numbered-counted.ensures c.rewrite-upto.ensures c.copy-keyed.ensures,
-)
-
-pub rewrite-requires : goal.rewrite-requires
-rewrite-requires c = texts.back-within c.requires c.args.table.now c.rewrite-before.ensures c.numbered-counted.ensures c.rewrite-upto.ensures c.copy-keyed.ensures
-    c.copy-valued.ensures
+returns c = let s = c.args.source.now in
+    let p = c.args.splice in
+    let head = appends_then (appends_part s p.at (p.at + 2) c.append.ensures)
+    (appends_then c.number.ensures (appends_part s (p.inside - 2) p.inside c.append-2.ensures)) in
+    texts.all-written p c.args.table.now s c.rewrite.ensures head c.rewrite-2.ensures c.append-3.ensures c.append-4.ensures c.rewrite-3.ensures

@@ -1,18 +1,11 @@
 -- `scanner::flag::null` meets its contract. Assumes nothing.
-use mathlib.Core.Path.{sym, ◌∙◌}
-use native.Mathlib.Omega.{arith}
-use lib.Dec.{lit<}
-use Rattle.format.specs.Bytes.{byte}
-use Rattle.bytes_at.proofs.BytesAt.{byte-there}
 use Rattle.scanner.proofs.Flags as flags
-use Rattle.scanner.proofs.Numbers.{answered}
+use Rattle.scanner.proofs.Numbers.{exits, answered}
 use Rattle.scanner.proofs.flag.null.Goals as goal
 
-pub returns-then-not-byte_is : goal.returns-then-not-byte_is
-returns-then-not-byte_is c = answered (flags.null_open _ _ (sym c.byte_is.ensures ∙ c.if-not-byte_is.true))
-
-pub overflow_add-result : goal.overflow_add-result
-overflow_add-result c = omega (arith, byte-there _ _ (byte ";") (lit< tt) (sym c.byte_is.ensures ∙ c.if-not-byte_is.false))
+pub returns-in_err-expect : goal.returns-in_err-expect
+returns-in_err-expect c =
+    answered (exits c.from_residual.ensures.1 c.in_err-expect.ensures.1 (flags.null_open _ _ c.in_err-expect.ensures.0))
 
 pub returns : goal.returns
-returns c = answered (flags.null_is _ _ (sym c.byte_is.ensures ∙ c.if-not-byte_is.false))
+returns c = answered (flags.null_is _ _ (c.in_ok-expect.ensures.0))

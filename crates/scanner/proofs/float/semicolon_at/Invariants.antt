@@ -1,11 +1,6 @@
 -- `scanner::float::semicolon_at` meets its contract. Assumes nothing.
-use Prim.Native.Nat.{◌-◌}
-use lib.ListN.{length}
 use Rattle.scanner.proofs.Floats as floats
 use Rattle.scanner.proofs.float.semicolon_at.Given as goal
 
 abbrev pub invariant-loop-i : goal.invariant-loop-i
 invariant-loop-i l = floats.Passed l.source l.at l.i
-
-abbrev pub decreases-loop-i : goal.decreases-loop-i
-decreases-loop-i l = length l.source - l.i

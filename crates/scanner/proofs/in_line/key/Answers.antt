@@ -8,6 +8,3 @@ or_scalar-requires c = scalars.tag_as _ _ _ _ c.in-105.is c.unsigned.ensures
 
 pub returns-in-115 : goal.returns-in-115
 returns-in-115 c = answered (scalars.scalar-string _ _ _ _ c.in-115.is c.quoted.ensures.scans)
-
-pub returns-in_default : goal.returns-in_default
-returns-in_default c = scalars.made c.anew.ensures c.scalar.ensures

@@ -11,6 +11,3 @@ or_scalar-requires-in-100 c = scalars.tag_as _ _ _ _ c.in-100.is c.plain.ensures
 
 pub returns-in-78 : goal.returns-in-78
 returns-in-78 c = answered (scalars.scalar-null _ _ _ _ c.in-78.is c.null.ensures.scans)
-
-pub returns-in_default : goal.returns-in_default
-returns-in_default c = scalars.made c.anew.ensures c.scalar.ensures

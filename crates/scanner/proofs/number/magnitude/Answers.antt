@@ -1,22 +1,16 @@
 -- `scanner::number::magnitude` meets its contract. Assumes nothing.
-use mathlib.Core.Path.{sym, ◌∙◌}
-use native.Mathlib.Omega.{arith}
-use lib.Dec.{lit<}
-use Rattle.format.specs.Bytes.{byte}
-use Rattle.bytes_at.proofs.BytesAt.{byte-there}
-use Rattle.scanner.proofs.Numbers.{found_of, magnitude_not, magnitude_open, magnitude-is}
+use mathlib.Core.Path.{refl}
+use Rattle.scanner.proofs.Numbers.{exits, found_of, magnitude_not, magnitude_open, magnitude-is}
 use Rattle.scanner.proofs.number.magnitude.Goals as goal
 
-pub returns-in_default : goal.returns-in_default
-returns-in_default c = magnitude_not c.args.negative _ c.digits-scan.ensures c.in_default.is
+pub returns-in_err-run : goal.returns-in_err-run
+returns-in_err-run c = exits c.from_residual.ensures.1 refl (magnitude_not c.args.negative _ c.digits.ensures c.in_err-run.was)
 
-pub returns-then-not-byte_is : goal.returns-then-not-byte_is
-returns-then-not-byte_is c = let is = found_of c.digits-scan.ensures c.in-Is.is in
-    magnitude_open _ _ c.args.negative _ _ is (sym c.byte_is.ensures ∙ c.if-not-byte_is.true)
-
-pub overflow_add-result : goal.overflow_add-result
-overflow_add-result c = omega (arith, byte-there _ _ (byte ";") (lit< tt) (sym c.byte_is.ensures ∙ c.if-not-byte_is.false))
+pub returns-in_err-expect : goal.returns-in_err-expect
+returns-in_err-expect c =
+    let is = found_of c.digits.ensures c.in_ok-run.was in
+    exits c.from_residual-in_err-expect.ensures.1 c.in_err-expect.ensures.1 (magnitude_open _ _ c.args.negative _ _ is c.in_err-expect.ensures.0)
 
 pub returns : goal.returns
-returns c = let is = found_of c.digits-scan.ensures c.in-Is.is in
-    magnitude-is _ _ c.args.negative _ _ is _ c.pattern_of.ensures (sym c.byte_is.ensures ∙ c.if-not-byte_is.false)
+returns c = let is = found_of c.digits.ensures c.in_ok-run.was in
+    magnitude-is _ _ c.args.negative _ _ is _ c.from.ensures (c.in_ok-expect.ensures.0)

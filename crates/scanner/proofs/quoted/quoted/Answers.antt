@@ -1,13 +1,11 @@
 -- `scanner::quoted::quoted` meets its contract. Assumes nothing.
 use Prim.Native.Nat.{◌+◌, ◌≤◌, ◌<◌}
 use native.Mathlib.Omega.{arith}
-use mathlib.Core.Path.{sym, refl, ◌∙◌}
-use lib.Dec.{lit<}
+use mathlib.Core.Path.{refl}
 use lib.ListN.{length}
-use Rattle.format.specs.Bytes.{byte}
 use Rattle.format.specs.Limits.{number_limit}
-use Rattle.bytes_at.proofs.BytesAt.{byte-there, pair-there}
-use Rattle.scanner.proofs.Numbers.{found_of, answered}
+use Rattle.bytes_at.proofs.BytesAt.{pair-there}
+use Rattle.scanner.proofs.Numbers.{exits, found_of, answered}
 use Rattle.scanner.proofs.Quotes as quotes
 use Rattle.scanner.proofs.quoted.quoted.Goals as goal
 use Rattle.scanner.proofs.quoted.quoted.Goals.{then-source-colon-ne58-via-then-source-colon-ne58 as no_colon}
@@ -15,48 +13,44 @@ use Rattle.scanner.proofs.quoted.quoted.Goals.{then-source-colon-ne58-via-else-s
 use Rattle.scanner.proofs.quoted.quoted.Goals.{then-source-colon-ne58-via-else-source-colon-ne58+else-source-colon-ne34+then-source-end-ne34 as no_end_quote}
 use Rattle.scanner.proofs.quoted.quoted.Goals.{then-source-colon-ne58-via-else-source-colon-ne58+else-source-colon-ne34+else-source-end-ne34+then-source-end as no_close}
 
-pub returns-then-not-byte_is : goal.returns-then-not-byte_is
-returns-then-not-byte_is c = answered (quotes.quoted_colon _ _ c.args.close (omega arith) (sym c.byte_is.ensures ∙ c.if-not-byte_is.true))
+pub returns-in_err-expect : goal.returns-in_err-expect
+returns-in_err-expect c =
+    answered (exits c.from_residual.ensures.1 c.in_err-expect.ensures.1 (quotes.quoted_colon _ _ c.args.close (omega arith) c.in_err-expect.ensures.0))
 
-pub overflow_add-at : goal.overflow_add-at
-overflow_add-at c =
-    let colon = sym c.byte_is.ensures ∙ c.if-not-byte_is.false in
-    omega (arith, byte-there _ _ (byte ":") (lit< tt) colon)
-
-pub returns-in_default : goal.returns-in_default
-returns-in_default c =
-    let colon = sym c.byte_is.ensures ∙ c.if-not-byte_is.false in
+pub returns-in_err-run : goal.returns-in_err-run
+returns-in_err-run c =
+    let colon = c.in_ok-expect.ensures.0 in
     let small : c.args.close < 256 = omega arith in
-    answered (quotes.quoted_not _ _ _ small colon _ _ c.number-scan.ensures c.in_default.is)
+    answered (exits c.from_residual-in_err-run.ensures.1 refl (quotes.quoted_not _ _ _ small colon _ _ c.number.ensures c.in_err-run.was))
 
 pub overflow_sub-source : goal.overflow_sub-source
 overflow_sub-source c =
-    let size = found_of c.number-scan.ensures c.in-Is.is in
+    let size = found_of c.number.ensures c.in_ok-run.was in
     omega (arith, size.inside)
 
 pub overflow_add-size : goal.overflow_add-size
 overflow_add-size c =
-    let colon = sym c.byte_is.ensures ∙ c.if-not-byte_is.false in
+    let colon = c.in_ok-expect.ensures.0 in
     let small : c.args.close < 256 = omega arith in
-    let size = found_of c.number-scan.ensures c.in-Is.is in
-    let fits : c.in-Is.run'.content ≤ number_limit = quotes.fits _ _ _ small colon _ size in
+    let size = found_of c.number.ensures c.in_ok-run.was in
+    let fits : c.in_ok-run.run'.content ≤ number_limit = quotes.fits _ _ _ small colon _ size in
     omega (arith, fits)
 
 pub returns-then-source-colon : goal.returns-then-source-colon
 returns-then-source-colon c =
-    let colon = sym c.byte_is.ensures ∙ c.if-not-byte_is.false in
+    let colon = c.in_ok-expect.ensures.0 in
     let small : c.args.close < 256 = omega arith in
-    let size = found_of c.number-scan.ensures c.in-Is.is in
+    let size = found_of c.number.ensures c.in_ok-run.was in
     answered (quotes.quoted_unframed _ _ _ small colon _ size
     (λ o e. omega (arith, pair-there _ _ _ _ e small, c.if-source-colon.true)))
 
 pub returns-then-source-colon-ne58 : goal.returns-then-source-colon-ne58
 returns-then-source-colon-ne58 c =
-    let colon = sym c.byte_is.ensures ∙ c.if-not-byte_is.false in
+    let colon = c.in_ok-expect.ensures.0 in
     let small : c.args.close < 256 = omega arith in
-    let size = found_of c.number-scan.ensures c.in-Is.is in
-    let room : c.in-Is.run'.next + 2 + c.in-Is.run'.content + 1 < length c.args.source.now = omega (arith, c.if-source-colon.false, size.inside) in
-    let front : c.in-Is.run'.next + 1 < length c.args.source.now = omega (arith, room) in
+    let size = found_of c.number.ensures c.in_ok-run.was in
+    let room : c.in_ok-run.run'.next + 2 + c.in_ok-run.run'.content + 1 < length c.args.source.now = omega (arith, c.if-source-colon.false, size.inside) in
+    let front : c.in_ok-run.run'.next + 1 < length c.args.source.now = omega (arith, room) in
     answered (quotes.quoted_unframed _ _ _ small colon _ size (λ o e. elim c.then-source-colon-ne58.branch [
       | no_colon w ↦ w.if-source-colon-ne58.true (quotes.first-is _ _ _ _ front o)
       | no_quote w ↦ w.if-source-colon-ne34.true (quotes.second_is _ _ _ _ front o)
@@ -66,11 +60,11 @@ returns-then-source-colon-ne58 c =
 
 pub returns : goal.returns
 returns c =
-    let colon = sym c.byte_is.ensures ∙ c.if-not-byte_is.false in
+    let colon = c.in_ok-expect.ensures.0 in
     let small : c.args.close < 256 = omega arith in
-    let size = found_of c.number-scan.ensures c.in-Is.is in
-    let room : c.in-Is.run'.next + 2 + c.in-Is.run'.content + 1 < length c.args.source.now = omega (arith, c.if-source-colon.false, size.inside) in
-    let front : c.in-Is.run'.next + 1 < length c.args.source.now = omega (arith, room) in
+    let size = found_of c.number.ensures c.in_ok-run.was in
+    let room : c.in_ok-run.run'.next + 2 + c.in_ok-run.run'.content + 1 < length c.args.source.now = omega (arith, c.if-source-colon.false, size.inside) in
+    let front : c.in_ok-run.run'.next + 1 < length c.args.source.now = omega (arith, room) in
     answered (quotes.quoted_is _ _ _ small colon _ size
     (quotes.pair_is _ _ _ _ front c.if-source-colon-ne58.false c.if-source-colon-ne34.false)
     (quotes.pair_is _ _ _ _ room c.if-source-end-ne34.false c.if-source-end.false) _ refl)

@@ -1,9 +1,0 @@
--- Gone through from the end.
-use Rattle.std.proofs.Common.{◌≤◌, length}
-use Rattle.cases.proofs.report.output_end.Given as goal
-
-abbrev pub invariant-loop-end : goal.invariant-loop-end
-invariant-loop-end l = l.end ≤ length l.out
-
-abbrev pub decreases-loop-end : goal.decreases-loop-end
-decreases-loop-end l = l.end

@@ -1,6 +1,0 @@
--- Each line leaves less of the source.
-use Rattle.std.proofs.Common.{◌-◌, length}
-use Rattle.cases.proofs.run_lines.Given as goal
-
-abbrev pub decreases-loop-at : goal.decreases-loop-at
-decreases-loop-at g l = length l.source - l.at
