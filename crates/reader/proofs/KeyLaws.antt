@@ -1,6 +1,8 @@
 -- Laws of keys and of the pairs that stand in the table. Assumes nothing.
 use Rattle.std.proofs.Common.{◌≡◌, ℕ, ◌+◌, ◌*◌, ◌<◌, ◌≤◌, Bool, true, false, eqb, List, [], ◌∷◌, ◌++◌, length, sym, refl, ap, ◌∙◌, subst, arith}
 use Rattle.std.proofs.Common.{ltb-true, le-ltb, lt-ltb, ne_eqb, eqb-true}
+use Rattle.std.proofs.Math.Logic.{∥∥₁_map, ∥∥₁_elim}
+use Rattle.std.proofs.Props.{props}
 use Rattle.decimal.proofs.Decide.{T_of, T_true, and_left, and_right}
 use Rattle.format.specs.Kind.{Kind, tag}
 use Rattle.format.specs.Syntax.{Quoted, int_key, string_key, Key}
@@ -55,7 +57,7 @@ record Unmarked (o : Bool) (s t m : List ℕ) (first i n : ℕ) (all : List Key)
 
 -- marking goes on at node i, from node b on
 pub record Marking (s t m₀ m : List ℕ) (first n b i : ℕ) : Type 0 where
-  pub walk : Walk s t i n
+  pub walk : ∥ Walk s t i n ∥₁
   pub grows : Grows m₀ m
   pub long : length m ≡ length m₀
   left : (o : Bool) (ks : List Key) → Chain o s t b n ks → Unmarked o s t m first i n ks
@@ -69,16 +71,20 @@ walk_from s t first n Seen.Nothing a = a
 walk_from s t first n (Seen.Upto top) a = a
 walk_from s t first n Seen.Marked a = record { of_array = a.of_array; keys = []; chain = none }
 
-pub marking_none : (s t m₀ : List ℕ) (first n b : ℕ) (h : Seen) → b ≡ unmarked_from h first n → Walk s t first n → Marking s t m₀ m₀ first n b b
+pub marking_none : (s t m₀ : List ℕ) (first n b : ℕ) (h : Seen) → b ≡ unmarked_from h first n → ∥ Walk s t first n ∥₁ → Marking s t m₀ m₀ first n b b
 marking_none s t m₀ first n b h e a =
     record {
-      walk = subst (λ (i : ℕ). Walk s t i n) (sym e) (walk_from s t first n h a);
+      walk = ∥∥₁_map a (λ a. subst (λ (i : ℕ). Walk s t i n) (sym e) (walk_from s t first n h a));
       grows = grows_none m₀;
       long = refl;
       left = λ o ks c. record { keys = ks; chain = c; rest = λ m' g a. a };
     }
 
 module _ {s t m₀ m : List ℕ} {first n b i : ℕ} (l : Marking s t m₀ m first n b i) where
+  -- a pair ends behind its key, and not behind the last one
+  pub marking-on : i < n → (i + 1 < word_at t i pair_end) × (word_at t i pair_end ≤ n)
+  marking-on lt = ∥∥₁_elim l.walk (Prim.hlevel props) (λ a. let p = stepped a.chain lt in (p.on, chain-le p.chain))
+
   -- the key at hand is entered
   module _ (m₁ : List ℕ) (hash : ℕ) (r : Bool) (w w' : KeyWords) (e : w ≡ key_or t i n w') (q : hash ≡ hash_words s first w) (d : Entered m m₁ hash r) where
     module _ {o : Bool} (v : KeyWords) (is : key_or t i n w' ≡ v) (k : Key) (held : Held o s k v) where
@@ -94,7 +100,7 @@ module _ {s t m₀ m : List ℕ} {first n b i : ℕ} (l : Marking s t m₀ m fir
     pub marking_more : i < n → length m₁ ≡ length m → Marking s t m₀ m₁ first n b (word_at t i pair_end)
     marking_more lt size =
         record {
-          walk = (let p = stepped l.walk.chain lt in record { of_array = l.walk.of_array; keys = p.rest; chain = p.chain });
+          walk = ∥∥₁_map l.walk (λ a. let p = stepped a.chain lt in record { of_array = a.of_array; keys = p.rest; chain = p.chain });
           grows = grown;
           long = size ∙ l.long;
           left = λ o ks c.

@@ -7,7 +7,7 @@ ghost use Rattle.reader.specs.KeysSeen.{Walk};
 ghost use Rattle.reader.specs.Steps.{Fit, Earlier, key_at, MeetsKey, Remembers};
 
 use crate::cursor::{Cursor, text_at};
-use crate::seen::{Seen, key_seen};
+use crate::seen::{Pairs, Seen};
 use crate::table::add_node;
 use format::codes::{Code, Refusal};
 use format::kind::Kind;
@@ -68,7 +68,13 @@ pub(crate) fn read_key(
         size: text.size,
     };
     let of_array = container == Kind::ARRAY;
-    if key_seen(of_array, source, table, filter, first, node, key, seen) {
+    let pairs = Pairs {
+        source,
+        table,
+        first,
+        node,
+    };
+    if pairs.has(of_array, filter, key, seen) {
         return Err(Code::KeyRepeated.at(at));
     }
     Ok(add_node(table, cursor, tag, text, false))

@@ -1,4 +1,5 @@
 // Values that hold no others: scalars and references.
+// Each asks that its tag stands at the cursor: with that in a struct, `Meets` and `value_at` would name plan and cursor through it, and no contract be shorter.
 ghost use Rattle.reader.specs.Texts.{scalar_tag, reference_tag};
 ghost use Rattle.reader.specs.Steps.{Fit, TagAt, value_at, Meets};
 

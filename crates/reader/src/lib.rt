@@ -7,8 +7,8 @@
 // The two searches, for equal keys (seen.rt) and for the node of an ordinal (lookup.rt), have narrow contracts that do not say how they search.
 #![tactic(auto)]
 
-ghost use Rattle.std.specs.Prelude.{◌*◌, ◌≤◌, length};
-ghost use Rattle.format.specs.Table.{width};
+ghost use Rattle.std.specs.Prelude.{◌≤◌};
+ghost use Rattle.format.specs.Reading.{capacity_of};
 ghost use Rattle.reader.specs.Promise.{Reads};
 ghost use Rattle.reader.specs.Steps.{Whole};
 
@@ -41,14 +41,8 @@ pub struct Counts {
 }
 
 // A whole plan; a refusal leaves the table as it falls.
-fn read_whole(
-    source: &[u8],
-    table: &mut [u64],
-    filter: &mut [u64],
-    capacity: usize,
-) -> Result<Cursor, Refusal>
-    requires { capacity * width ≤ length table.old }
-    ensures { Whole source.now table.old table.new capacity result }
+fn read_whole(source: &[u8], table: &mut [u64], filter: &mut [u64]) -> Result<Cursor, Refusal>
+    ensures { Whole source.now table.old table.new (capacity_of table.old) result }
 {
     if SOURCE_LIMIT < source.len() {
         return Err(Code::SourceTooLong.at(0));
@@ -59,6 +53,7 @@ fn read_whole(
         ordinal: 0,
         levels: DEPTH_LIMIT,
     };
+    let capacity = table.len() / WIDTH;
     let end = value::read_value(source, table, filter, capacity, start)?;
     if end.at < source.len() {
         return Err(Code::BytesBehind.at(end.at));
@@ -67,41 +62,35 @@ fn read_whole(
 }
 
 // A plan with a filter of so many words; none for a short plan, whose keys are few, so that each is looked for among the pairs.
-fn read_with<const N: usize>(
-    source: &[u8],
-    table: &mut [u64],
-    capacity: usize,
-) -> Result<Cursor, Refusal>
-    requires { (capacity * width ≤ length table.old) × (N ≤ 4096) }
-    ensures { Whole source.now table.old table.new capacity result }
+fn read_with<const N: usize>(source: &[u8], table: &mut [u64]) -> Result<Cursor, Refusal>
+    requires { N ≤ 4096 }
+    ensures { Whole source.now table.old table.new (capacity_of table.old) result }
 {
     let mut filter = [0u64; N];
-    read_whole(source, table, &mut filter, capacity)
+    read_whole(source, table, &mut filter)
 }
 
 // A plan with as large a filter as its length asks for: a word for 32 bytes at least, so that a new key is seldom taken for marked.
-fn read_by_length(source: &[u8], table: &mut [u64], capacity: usize) -> Result<Cursor, Refusal>
-    requires { capacity * width ≤ length table.old }
-    ensures { Whole source.now table.old table.new capacity result }
+fn read_by_length(source: &[u8], table: &mut [u64]) -> Result<Cursor, Refusal>
+    ensures { Whole source.now table.old table.new (capacity_of table.old) result }
 {
     if source.len() < FILTER_FROM {
-        return read_with::<0>(source, table, capacity);
+        return read_with::<0>(source, table);
     }
     if source.len() < LARGER_FROM {
-        return read_with::<128>(source, table, capacity);
+        return read_with::<128>(source, table);
     }
     if source.len() < LARGE_FROM {
-        return read_with::<1024>(source, table, capacity);
+        return read_with::<1024>(source, table);
     }
-    read_with::<4096>(source, table, capacity)
+    read_with::<4096>(source, table)
 }
 
 // Reads a plan into the table; a refusal makes every word of it zero.
 pub fn read(source: &[u8], table: &mut [u64]) -> Result<Counts, Refusal>
     ensures { Reads source.now table.old table.new result }
 {
-    let capacity = table.len() / WIDTH;
-    match read_by_length(source, table, capacity) {
+    match read_by_length(source, table) {
         Ok(end) => Ok(Counts {
             nodes: end.node,
             ordinals: end.ordinal,

@@ -1,4 +1,5 @@
 // The node that carries an ordinal, found by a scan over the nodes so far, from where it can stand at the earliest. (Paper 02's L5 narrows it by halves.)
+// Each asks for its own end that the table has it: a struct of the table and its nodes would still leave the scan to ask that its end is none behind them.
 ghost use Rattle.std.specs.Prelude.{◌*◌, ◌<◌, ◌≤◌, length};
 ghost use Rattle.format.specs.Table.{width};
 ghost use Rattle.reader.specs.Nodes.{CarrierIn};

@@ -4,6 +4,8 @@
 // The loop over the pairs carries what is known of the keys (`Seen`) from key to key, and knows nothing else of this.
 ghost use Rattle.std.specs.Prelude.{◌≡◌, ◌+◌, ◌*◌, ◌≤◌, length};
 ghost use Rattle.format.specs.Table.{width};
+ghost use Rattle.format.specs.Keys.{has_key};
+ghost use Rattle.keys.specs.KeyWords.{key_said, keys_said};
 ghost use Rattle.reader.specs.KeysSeen.{rank, key_or, Walk, MarkedAll, Tested, unmarked_from, rises, next};
 
 use format::table::{INT_TAG, PAIR_END, WIDTH};
@@ -61,66 +63,76 @@ fn unmarked_from(seen: Seen, first: usize, node: usize) -> usize
     }
 }
 
-// The key of the pair at node `i`, or this one behind the last pair.
-fn key_or(table: &[u64], i: usize, node: usize, key: KeyWords) -> KeyWords
-    requires { node * width ≤ length table.now }
-    ensures { result ≡ key_or table.now i node key }
-{
-    if i < node {
-        return key_at(table, i);
-    }
-    key
+// The pairs of a container that were read so far: they stand from node `first` up to `node`, which the table has. The methods are in line by hints: called,
+// each key would lay this out in memory, and rising integers cost 4 % more instructions.
+#[derive(Clone, Copy)]
+pub(crate) struct Pairs<'a> {
+    pub(crate) source: &'a [u8],
+    pub(crate) table: &'a [u64],
+    pub(crate) first: usize,
+    pub(crate) node: usize,
+    ghost fits: { node * width ≤ length table.now },
+    ghost walk: { ∥ Walk source.now table.now first node ∥₁ },
 }
 
-// Marks the keys of the pairs from node `first` up to `node` that are not marked, and then this one: whether it was already. Keys are hashed in one place only:
-// with this one hashed behind a `while` over the pairs, string keys and falling integers take 5 % more instructions.
-fn mark_keys(
-    source: &[u8],
-    table: &[u64],
-    filter: &mut [u64],
-    first: usize,
-    node: usize,
-    key: KeyWords,
-    seen: Seen,
-) -> bool
-    requires width_in_bounds { node * width ≤ length table.now }
-    requires walk { Walk source.now table.now first node }
-    ensures { MarkedAll source.now table.now filter.old filter.new first node key seen result }
-{
-    let mut i = unmarked_from(seen, first, node);
-    loop {
-        let hash = key_filter::hash(source, first, key_or(table, i, node, key));
-        let known = key_filter::enter(filter, hash);
-        if node <= i {
-            return known;
+impl Pairs<'_> {
+    // The key of the pair at node `i`, or this one behind the last pair.
+    fn key_or(&self, i: usize, key: KeyWords) -> KeyWords
+        ensures { result ≡ key_or self.now.table.now i self.now.node key }
+    {
+        if i < self.node {
+            return key_at(self.table, i);
         }
-        i = table[i * WIDTH + PAIR_END] as usize;
+        key
     }
-}
 
-// Whether a key equals one of those of the pairs that stand from node `first` up to `node`.
-pub(crate) fn key_seen(
-    of_array: bool,
-    source: &[u8],
-    table: &[u64],
-    filter: &mut [u64],
-    first: usize,
-    node: usize,
-    key: KeyWords,
-    seen: Seen,
-) -> bool
-    requires width_in_bounds { node * width ≤ length table.now }
-    requires walk { Walk source.now table.now first node }
-    ensures { Tested of_array source.now table.now filter.old filter.new first node key seen result }
-{
-    if rises(seen, key) {
-        return false;
+    // Marks the keys that are not marked, and then this one: whether it was already. Keys are hashed in one place only: with this one hashed behind a `while`
+    // over the pairs, string keys and falling integers take 5 % more instructions.
+    #[inline(always)]
+    fn mark(&self, filter: &mut [u64], key: KeyWords, seen: Seen) -> bool
+        ensures { MarkedAll self.now.source.now self.now.table.now filter.old filter.new self.now.first self.now.node key seen result }
+    {
+        let mut i = unmarked_from(seen, self.first, self.node);
+        loop {
+            let hash = key_filter::hash(self.source, self.first, self.key_or(i, key));
+            let known = key_filter::enter(filter, hash);
+            if self.node <= i {
+                return known;
+            }
+            i = self.table[i * WIDTH + PAIR_END] as usize;
+        }
     }
-    if filter.len() == 0 {
-        return has_key(of_array, source, table, first, node, source, key);
+
+    // Whether a key equals one of theirs, looked for from pair to pair.
+    #[inline(always)]
+    fn has_key(&self, of_array: bool, key: KeyWords) -> bool
+        ensures { result ≡ has_key (key_said of_array self.now.source.now key)
+            (keys_said of_array self.now.source.now self.now.table.now self.now.first self.now.node) }
+    {
+        has_key(
+            of_array,
+            self.source,
+            self.table,
+            self.first,
+            self.node,
+            self.source,
+            key,
+        )
     }
-    if !mark_keys(source, table, filter, first, node, key, seen) {
-        return false;
+
+    // Whether a key equals one of theirs.
+    pub(crate) fn has(&self, of_array: bool, filter: &mut [u64], key: KeyWords, seen: Seen) -> bool
+        ensures { Tested of_array self.now.source.now self.now.table.now filter.old filter.new self.now.first self.now.node key seen result }
+    {
+        if rises(seen, key) {
+            return false;
+        }
+        if filter.len() == 0 {
+            return self.has_key(of_array, key);
+        }
+        if !self.mark(filter, key, seen) {
+            return false;
+        }
+        self.has_key(of_array, key)
     }
-    has_key(of_array, source, table, first, node, source, key)
 }

@@ -1,4 +1,5 @@
 // Values and pairs, in a cycle: a container's pairs hold values, and the bytes left fall at each call.
+// Plan, table, filter and room stay parameters: as fields of a reader with these as methods it proves, and lists take 6 %, strings 8 % more instructions.
 ghost use Rattle.key_filter.specs.Filter.{Grows};
 ghost use Rattle.reader.specs.Texts.{container_tag};
 ghost use Rattle.reader.specs.Steps.{Fit, TagAt, value_at, pairs_at, Meets, MeetsPairs};

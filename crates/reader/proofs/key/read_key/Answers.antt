@@ -25,24 +25,24 @@ returns-in_err-text-clause-meets_key c =
     λ earlier e. exit _ _ _ _ c.from_residual.ensures.1
     (steps.key_not _ _ _ _ earlier _ c.if-source-at.false refl may c.if-capacity-node.false _ _ (unfit_at told _ _ _ c.in_err-text.ensures))
 
-pub returns-then-key_seen-clause-meets_key : goal.returns-then-key_seen-clause-meets_key
-returns-then-key_seen-clause-meets_key c =
+pub returns-then-has-clause-meets_key : goal.returns-then-has-clause-meets_key
+returns-then-has-clause-meets_key c =
     let may = sym c.key_allowed.ensures ∙ c.if-not-key_allowed.false in
     let is = found_at (key-scanned c.args.container _ may c.key.ensures.scans) _ c.in_ok-text.ensures in
-    let tested = steps.told_array c.args.container c.key_seen.ensures in
-    rw c.at-then-key_seen.ensures (λ earlier e.
-    steps.key_twice _ _ _ _ earlier _ c.if-source-at.false refl may c.if-capacity-node.false _ is tested e c.if-key_seen.true)
+    let tested = steps.told_array c.args.container c.has.ensures in
+    rw c.at-then-has.ensures (λ earlier e.
+    steps.key_twice _ _ _ _ earlier _ c.if-source-at.false refl may c.if-capacity-node.false _ is tested e c.if-has.true)
 
 pub returns-clause-meets_key : goal.returns-clause-meets_key
 returns-clause-meets_key c =
     let may = sym c.key_allowed.ensures ∙ c.if-not-key_allowed.false in
     let is = found_at (key-scanned c.args.container _ may c.key.ensures.scans) _ c.in_ok-text.ensures in
-    let tested = steps.told_array c.args.container c.key_seen.ensures in
+    let tested = steps.told_array c.args.container c.has.ensures in
     λ earlier e.
-    steps.key_good _ _ _ _ earlier _ c.if-source-at.false refl may c.if-capacity-node.false _ is tested e c.if-key_seen.false
+    steps.key_good _ _ _ _ earlier _ c.if-source-at.false refl may c.if-capacity-node.false _ is tested e c.if-has.false
     _ _ c.requires.fit c.add_node.ensures
 
 pub returns-clause-remembers : goal.returns-clause-remembers
 returns-clause-remembers c =
-    let keys = steps.told_array c.args.container c.key_seen.ensures in
+    let keys = steps.told_array c.args.container c.has.ensures in
     steps.one_more _ _ _ _ _ _ _ _ _ _ _ _ _ _ _ c.requires.fit c.if-capacity-node.false keys c.add_node.ensures
