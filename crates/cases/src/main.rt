@@ -19,9 +19,8 @@
 #![tactic(auto)]
 
 use crate::line::{expand, field, lent, number, part};
-use crate::memory::{held_byte, held_word};
+use crate::memory::{held_byte, held_word, hold};
 use crate::report::{print_output, print_reading, print_table, print_writing};
-use std::array;
 use std::io::{self, Read};
 
 mod line;
@@ -49,10 +48,14 @@ fn call(rt: &impl Print, line: &[u8], table: &mut [u64], out: &mut [u8]) -> io::
 
 // At most half is lent, so that something always stands behind.
 fn run_line(rt: &impl Print, text: &[u8]) -> io::Result<()> {
-    let expanded = expand(text);
+    // A line may have a longer plan than is accepted.
+    let mut buffer = [0u8; 70000];
+    let expanded = expand(text, &mut buffer);
     let line = expanded.text();
-    let mut table: [u64; 1600] = array::from_fn(held_word);
-    let mut out: [u8; 1400] = array::from_fn(held_byte);
+    let mut table = [0u64; 1600];
+    let mut out = [0u8; 1400];
+    hold(&mut table, held_word);
+    hold(&mut out, held_byte);
     let words = lent(line, 1, table.len() / 2);
     let bytes = lent(line, 2, out.len() / 2);
     call(rt, line, &mut table[..words], &mut out[..bytes])?;

@@ -11,6 +11,15 @@ pub(crate) fn held_byte(i: usize) -> u8 {
     (128 + i % 128) as u8
 }
 
+// In place: an array made by a function of the index is cleared and copied besides.
+pub(crate) fn hold<T: Drop, H: Fn(usize) -> T>(memory: &mut [T], held: H)
+    requires { (f : H) (i : _) → H.pre f i }
+{
+    for (i, now) in memory.iter_mut().enumerate() {
+        *now = held(i);
+    }
+}
+
 // How many are to be printed: all up to the last that is not as it was.
 pub(crate) fn changed<T: PartialEq + Copy, H: Fn(usize) -> T>(memory: &[T], held: H) -> usize
     requires { (f : H) (i : _) → H.pre f i }

@@ -2,7 +2,7 @@
 // `run_at` takes bytes and any index, and gives where the run of digits there ends and its value, held at a cap. So one function serves *numbers* (cap 65,537)
 // and 64-bit integers, however many leading zeros stand there. Whether a value is too great the caller says: nothing is refused here.
 // `write_decimal` stores the shortest digits and gives their count, which cannot overflow. It loses the stores that fall outside, and so does `put`, by which
-// rewriting writes a minus.
+// it stores.
 // A `Signed` converts to its word and back (`From`). The laws of proofs/ hold for every width.
 #![tactic(auto)]
 

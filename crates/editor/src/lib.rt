@@ -155,7 +155,10 @@ pub fn canonicalize(source: &[u8], table: &mut [u64], out: &mut [u8]) -> Result<
     ensures { Writes (terms_of table.old) (canonical_bytes (terms_of table.old) (length out.old) source.now)
         source.now table.old table.new out.old out.new result }
 {
-    reader::read(source, table)?;
+    let reading = reader::read(source, table);
+    let Ok(_) = reading else {
+        return Err(reading.unwrap_err());
+    };
     write_plan(source, Edit::Canonical, &[], &[], table, out)
 }
 
@@ -174,6 +177,9 @@ pub fn insert(
         array_node pair_index key.now value.now)
         source.now table.old table.new out.old out.new result }
 {
-    let splice = locate(source, array_node, pair_index, key, value, table)?;
+    let placing = locate(source, array_node, pair_index, key, value, table);
+    let Ok(splice) = placing else {
+        return Err(placing.unwrap_err());
+    };
     write_plan(source, Edit::Splice(splice), key, value, table, out)
 }

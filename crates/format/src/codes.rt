@@ -1,6 +1,6 @@
 // Refusals, for code: "A refusal returns its number and a position".
-ghost use Rattle.std.specs.Prelude.{◌≡◌};
-ghost use Rattle.format.specs.Codes.{number_of};
+ghost use Rattle.std.specs.Prelude.{◌≡◌, Some};
+ghost use Rattle.format.specs.Codes.{number_of, refusal_text};
 
 use std::fmt;
 
@@ -64,6 +64,8 @@ impl From<Code> for u8 {
 
 // As the programs print it: `refused 2 at 0`.
 impl fmt::Display for Refusal {
+    ghost output = { λ refusal. Some (refusal_text refusal) };
+
     fn fmt<W: fmt::Write>(&self, f: &mut fmt::Formatter<W>) -> fmt::Result {
         write!(f, "refused {} at {}", u8::from(self.code), self.at)
     }

@@ -4,6 +4,9 @@
 // Users call it, and tests/programs/nodes.sh. It is proved to end without fault; what it prints is tested.
 #![tactic(auto)]
 
+ghost use Rattle.std.specs.Prelude.{◌*◌, ◌≤◌, length};
+ghost use Rattle.format.specs.Table.{width};
+
 use format::limits::SOURCE_LIMIT;
 use format::table::WIDTH;
 use std::io::{self, Read};
@@ -14,7 +17,9 @@ const SOURCE_SIZE: usize = SOURCE_LIMIT + 1;
 const TABLE_WORDS: usize = 8190;
 
 // A line for each of the table's first nodes: its words, with commas between them.
-fn print_nodes(rt: &impl Print, table: &[u64], nodes: usize) -> io::Result<()> {
+fn print_nodes(rt: &impl Print, table: &[u64], nodes: usize) -> io::Result<()>
+    requires { nodes * width ≤ length table.now }
+{
     let (all, _) = table.as_chunks::<WIDTH>();
     for [tag, ordinal, content, size, link, end] in all.iter().take(nodes) {
         println!(rt; "{tag},{ordinal},{content},{size},{link},{end}")?;

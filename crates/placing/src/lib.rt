@@ -42,8 +42,9 @@ pub fn locate(
         key,
         value,
     );
-    if placed.is_err() {
+    let Ok(_) = placed else {
         tables::clear(table);
-    }
+        return placed;
+    };
     placed
 }

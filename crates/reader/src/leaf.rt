@@ -1,5 +1,7 @@
 // Values that hold no others: scalars and references.
 // Each asks that its tag stands at the cursor: with that in a struct, `Meets` and `value_at` would name plan and cursor through it, and no contract be shorter.
+ghost use Rattle.std.specs.Prelude.{◌+◌, ◌<◌, length};
+ghost use Rattle.scanner.specs.Scans.{Answers, scalar_behind, scalar_told};
 ghost use Rattle.reader.specs.Texts.{scalar_tag, reference_tag};
 ghost use Rattle.reader.specs.Steps.{Fit, TagAt, value_at, Meets};
 
@@ -10,9 +12,22 @@ use format::codes::{Code, Refusal};
 use format::kind::Kind;
 use scanner::Text;
 
+// The text of a scalar whose tag stands at an index: of values in the loop over the pairs in line; of a plan's own value, which stands alone, by a call. In line
+// a few spellings are tried first, and what is none of these is looked at again from its beginning.
+#[inline(always)]
+fn scan<const ALONE: bool>(source: &[u8], at: usize, tag: u8) -> Result<Text, Code>
+    requires { at < length source.now }
+    ensures { Answers (scalar_behind tag) (scalar_told (at + 1)) source.now (at + 1) result }
+{
+    if ALONE {
+        return scanner::scalar::scalar(source, at + 1, tag);
+    }
+    scanner::in_line::value(source, at + 1, tag)
+}
+
 // A scalar: 8, then 7, then its text, then its node. Whether it takes an ordinal is asked where its kind was just chosen, so that the choice answers it.
 #[inline(always)]
-pub(crate) fn read_scalar(
+pub(crate) fn read_scalar<const ALONE: bool>(
     source: &[u8],
     table: &mut [u64],
     capacity: usize,
@@ -25,8 +40,7 @@ pub(crate) fn read_scalar(
 {
     let taken = Kind { tag }.has_ordinal();
     check_room(capacity, cursor)?;
-    let scan = scanner::in_line::value(source, cursor.at + 1, tag);
-    let text = text_at(scan, cursor.at)?;
+    let text = text_at(scan::<ALONE>(source, cursor.at, tag), cursor.at)?;
     Ok(add_node(table, cursor, tag, text, taken))
 }
 

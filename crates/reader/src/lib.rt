@@ -54,7 +54,7 @@ fn read_whole(source: &[u8], table: &mut [u64], filter: &mut [u64]) -> Result<Cu
         levels: DEPTH_LIMIT,
     };
     let capacity = table.len() / WIDTH;
-    let end = value::read_value(source, table, filter, capacity, start)?;
+    let end = value::read_own(source, table, filter, capacity, start)?;
     if end.at < source.len() {
         return Err(Code::BytesBehind.at(end.at));
     }

@@ -63,7 +63,7 @@ fn unmarked_from(seen: Seen, first: usize, node: usize) -> usize
     }
 }
 
-// The pairs of a container that were read so far: they stand from node `first` up to `node`, which the table has. The methods are in line by hints: called,
+// The pairs of a container that were read so far: they stand from node `first` up to `node`, which the table has. `mark` and `has_key` are in line by hints: called,
 // each key would lay this out in memory, and rising integers cost 4 % more instructions.
 #[derive(Clone, Copy)]
 pub(crate) struct Pairs<'a> {

@@ -37,7 +37,7 @@ pub(crate) fn read_value(
     let tag = source[at];
     match tag {
         Kind::NULL | Kind::BOOL | Kind::INT | Kind::FLOAT | Kind::STRING => {
-            read_scalar(source, table, capacity, cursor, tag)
+            read_scalar::<false>(source, table, capacity, cursor, tag)
         }
         // what a call returns lies in memory: taken apart, it does not keep the answers made in line there too
         Kind::ARRAY | Kind::OBJECT => Ok(read_container(
@@ -48,6 +48,27 @@ pub(crate) fn read_value(
         }
         _ => Err(Code::TagUnknown.at(at)),
     }
+}
+
+// A plan's own value, around all others. A scalar is read for itself; containers and references as any value is.
+pub(crate) fn read_own(
+    source: &[u8],
+    table: &mut [u64],
+    filter: &mut [u64],
+    capacity: usize,
+    cursor: Cursor,
+) -> Result<Cursor, Refusal>
+    requires { Fit source.now table.old capacity cursor }
+    ensures meets { Meets source.now table.old table.new capacity cursor (value_at source.now capacity cursor) result }
+    ensures grows { Grows filter.old filter.new }
+{
+    if cursor.at < source.len() {
+        let tag = source[cursor.at];
+        if let Kind::NULL | Kind::BOOL | Kind::INT | Kind::FLOAT | Kind::STRING = tag {
+            return read_scalar::<true>(source, table, capacity, cursor, tag);
+        }
+    }
+    read_value(source, table, filter, capacity, cursor)
 }
 
 // A container: 8, then 7, then its head, its pairs and its closing brace; its node's end is known last.

@@ -17,7 +17,7 @@ use Rattle.format.proofs.Answers.{ok_same, not_both}
 use Rattle.rewriting.specs.declared.Edit.{Edit}
 use Rattle.rewriting.specs.declared.splice.Splice.{Splice}
 use Rattle.rewriting.specs.declared.output.Output.{Output}
-use Rattle.rewriting.specs.Output.{index_limit, Puts, Appends}
+use Rattle.rewriting.specs.Output.{Puts, Appends}
 use Rattle.rewriting.specs.Edited.{edited_text, edit_stands, writable, edited_answer, edited_bytes}
 use Rattle.rewriting.specs.Edited.{length_edited, output_edited, Edits, Parted}
 use Rattle.rewriting.proofs.Measures.{spliced-index, parted-most, canonical-text-most}
@@ -68,9 +68,9 @@ leaves-unfit s t e key value {out} f =
 pub standing : (s : List ℕ) (e : Edit) (key value : List ℕ) → writable (length s) e (length key) (length value) ≡ true → edit_stands (length s) e ≡ true
 standing s e key value f = (sizes (length s) e (length key) (length value) f).standing
 
--- so short that its length is an index
+-- so short that its length is an index: far below the highest
 edited-index : (s t : List ℕ) (e : Edit) (key value : List ℕ) → writable (length s) e (length key) (length value) ≡ true
-    → length (edited_text s t e key value) ≤ index_limit
+    → length (edited_text s t e key value) ≤ 1048576
 edited-index s t Edit.Canonical key value f =
     omega (arith, canonical-text-most t s, (sizes (length s) Edit.Canonical (length key) (length value) f).source)
 edited-index s t (Edit.Splice p) key value f =

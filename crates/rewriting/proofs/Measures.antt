@@ -23,7 +23,6 @@ use Rattle.tokens.proofs.Stretches.{Prefix, between-prefix, between_stretch}
 use Rattle.rewriting.specs.declared.rewrite.Change.{Change}
 use Rattle.rewriting.specs.declared.splice.Renumbering.{Renumbering}
 use Rattle.rewriting.specs.declared.splice.Splice.{Splice}
-use Rattle.rewriting.specs.Output.{index_limit}
 use Rattle.rewriting.specs.Rewriting.{is_renumbered, new_number, renumbered_token, changed_token, changed_text, rewritten_text}
 use Rattle.rewriting.specs.Rewriting.{renumbered_between}
 use Rattle.rewriting.specs.Edited.{canonical_text, spliced_head, spliced_text, stands, Parted}
@@ -251,7 +250,7 @@ module _ (s key value : List ℕ) (p : Splice) where
           between-length s p.to (length s),
         )
 
-    pub spliced-index : length s ≤ source_limit → length key ≤ source_limit → length value ≤ source_limit → length (spliced_text s key value p) ≤ index_limit
+    pub spliced-index : length s ≤ source_limit → length key ≤ source_limit → length value ≤ source_limit → length (spliced_text s key value p) ≤ 1048576
     spliced-index h i j = omega (arith, spliced_most)
 
     -- between tokens, where no reference rises by more than one

@@ -12,7 +12,7 @@ use Rattle.rewriting.specs.Rewriting.{is_renumbered, respelled_text, rewritten_t
 
 -- ---- one token
 
--- it is written again: it has a number, and where references are renumbered, it is one that is
+-- it is written again: it is no closing brace, and where references are renumbered, it is one that is
 pub record Changes (c : Change) (s : List ℕ) (at : ℕ) (x : Text) : Type 0 where
   pub number : get_or s at 0 ≡ byte "}" → ⊥
   pub moves : (m : Renumbering) → c ≡ Change.Renumber m → ReferenceTag (get_or s at 0) × (is_renumbered m x.content ≡ true)

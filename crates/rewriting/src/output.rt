@@ -1,9 +1,19 @@
 // Texts written to a lent output. Stores past its end are lost, so that the same code measures a text and writes it.
-ghost use Rattle.std.specs.Prelude.{◌≡◌};
+ghost use Rattle.std.specs.Prelude.{◌≡◌, length};
 ghost use Rattle.decimal.specs.Digits.{decimal};
 ghost use Rattle.rewriting.specs.Output.{signed_digits, Appends};
 
 use decimal::Signed;
+
+// The bytes of a text, where as many stand. Not `copy_from_slice`: that is a call of `memmove`, which a program in C that links the archive would have to have.
+fn copy(text: &[u8], out: &mut [u8])
+    requires { length text.now ≡ length out.old }
+    ensures { out.new ≡ text.now }
+{
+    for i in 0..out.len() {
+        out[i] = text[i];
+    }
+}
 
 // A lent output, and how long the text is that was written to it so far, whatever the room. The length is held at the highest index, so that no caller owes a
 // bound; that it is never reached is known of an edited text (`edited-index`, proofs/Editable).
@@ -20,7 +30,7 @@ impl Output<'_> {
     {
         let start = self.length.min(self.bytes.len());
         let count = text.len().min(self.bytes.len() - start);
-        self.bytes[start..start + count].copy_from_slice(&text[..count]);
+        copy(&text[..count], &mut self.bytes[start..start + count]);
         self.length = self.length.saturating_add(text.len());
     }
 

@@ -1,15 +1,15 @@
 -- Laws of float texts. Assumes nothing.
-use Prim.Native.Nat.{ℕ, suc, ◌+◌, ◌-◌, ◌≤◌, ◌<◌}
+use Prim.Native.Nat.{ℕ, ◌+◌, ◌-◌, ◌≤◌, ◌<◌}
 use native.Mathlib.Numerals.{add-one}
 use native.Mathlib.Omega.{arith}
 use mathlib.Core.Path.{◌≡◌, refl, sym, ap, ◌∙◌}
 use mathlib.Core.Bool.{Bool, true, false}
-use mathlib.Core.List.{List, [], ◌∷◌, ◌++◌, append_assoc, append-nil}
+use mathlib.Core.List.{List, [], ◌++◌, append_assoc, append-nil}
 use lib.Dec.{eqb, lit<}
 use lib.ListN.{length, get_or, take, drop, length-drop, drop_of_length-le}
-use lib.Seq.{drop-cons, drop-drop, take-suc, get_or-drop, length-take-le}
+use lib.Seq.{drop-cons, drop-drop, take-add, length-take-le}
 use borrow.Author.Tests.{ne_eqb}
-use Rattle.std.proofs.lemmas.List.{take_all}
+use Rattle.std.proofs.lemmas.List.{take_all, take-append-drop}
 use Rattle.std.specs.Prelude.{Ok, Err}
 use Rattle.format.specs.declared.codes.Code.{Code}
 use Rattle.format.specs.Bytes.{byte, bytes}
@@ -17,52 +17,60 @@ use Rattle.format.specs.Limits.{is_float}
 use Rattle.format.specs.Answer.{Answer, ok, refused, require, ◌>>=◌}
 use Rattle.format.specs.Read.{expect, until, float_text}
 use Rattle.scanner.specs.Scans.{Scans, tell, float_told}
-use Rattle.scanner.specs.Parts.{SemicolonAt, NoSemicolon}
+use Rattle.scanner.specs.Parts.{Passed, SemicolonAt, NoSemicolon}
 use Rattle.bytes_at.specs.ByteAt.{byte_at}
 use Rattle.bytes_at.proofs.BytesAt.{expect_yes, expect-no}
 use Rattle.scanner.proofs.Numbers.{scans-is, scans_not}
 
 -- ---- the semicolon
 
--- from `at` to i no semicolon stands
-pub record Passed (s : List ℕ) (at i : ℕ) : Type 0 where
-  pub part : until (byte ";") (drop at s) ≡ take (i - at) (drop at s) ++ until (byte ";") (drop i s)
-  pub on : at ≤ i
-  pub inside : i ≤ length s
-
-pub passed_none : (s : List ℕ) (at : ℕ) → at ≤ length s → Passed s at at
-passed_none s at h = record { part = ap (λ (k : ℕ). take k (drop at s) ++ until (byte ";") (drop at s)) (zero_is at); on = omega arith; inside = h }
+pub passed_none : (s : List ℕ) (at : ℕ) → Passed s at at
+passed_none s at = record { part = ap (λ (k : ℕ). take k (drop at s) ++ until (byte ";") (drop at s)) (zero_is at); on = omega arith }
   where
     zero_is : (m : ℕ) → 0 ≡ m - m
     zero_is m = omega arith
 
-pub passed-more : (s : List ℕ) (at i : ℕ) → Passed s at i → i < length s → (get_or s i 0 ≡ byte ";" → ⊥) → Passed s at (i + 1)
-passed-more s at i p h n =
-    record {
-      part =
-          p.part
-          ∙ ap (λ (x : List ℕ). take (i - at) (drop at s) ++ x) next
-          ∙ sym (append_assoc (take (i - at) (drop at s)) (get_or s i 0 ∷ []) (until (byte ";") (drop (i + 1) s)))
-          ∙ ap (λ (x : List ℕ). x ++ until (byte ";") (drop (i + 1) s)) (sym one_more);
-      on = omega (arith, p.on);
-      inside = omega arith;
-    }
-  where
-    next : until (byte ";") (drop i s) ≡ get_or s i 0 ∷ until (byte ";") (drop (i + 1) s)
-    next = rw (drop-cons s i 0 h, until, ne_eqb (byte ";") (get_or s i 0) (λ e. n (sym e)))
-        (ap (λ (k : ℕ). get_or s i 0 ∷ until (byte ";") (drop k s)) (sym (add-one i)))
+pub passed-one : (s : List ℕ) (i : ℕ) → i < length s → (get_or s i 0 ≡ byte ";" → ⊥) → Passed s i (i + 1)
+passed-one s i h n =
+    let one : i + 1 - i ≡ 1 = omega arith in
+    record { part = rw (one, drop-cons s i 0 h, until, ne_eqb (byte ";") (get_or s i 0) (λ e. n (sym e)), add-one i); on = omega arith }
 
-    suc_is : at ≤ i → i + 1 - at ≡ suc (i - at)
-    suc_is h = omega arith
+-- what was passed, and what stands behind it
+module _ (s : List ℕ) (at i : ℕ) (p : Passed s at i) where
+  abbrev front : List ℕ
+  front = take (i - at) (drop at s)
 
-    same : at ≤ i → at + (i - at) ≡ i
-    same h = omega arith
+  behind : drop (i - at) (drop at s) ≡ drop i s
+  behind = drop-drop (i - at) at s ∙ ap (λ (k : ℕ). drop k s) (omega (arith, p.on))
 
-    one_more : take (i + 1 - at) (drop at s) ≡ take (i - at) (drop at s) ++ (get_or s i 0 ∷ [])
-    one_more =
-        ap (λ (k : ℕ). take k (drop at s)) (suc_is p.on)
-        ∙ take-suc (drop at s) (i - at) 0 (omega (arith, length-drop at s, p.on))
-        ∙ ap (λ (x : ℕ). take (i - at) (drop at s) ++ (x ∷ [])) (get_or-drop at s (i - at) 0 ∙ ap (λ (k : ℕ). get_or s k 0) (same p.on))
+  joined : (end : ℕ) → i ≤ end → front ++ take (end - i) (drop i s) ≡ take (end - at) (drop at s)
+  joined end h = sym (ap (λ (k : ℕ). take k (drop at s)) sum ∙ take-add (i - at) (end - i) (drop at s) ∙ ap (λ (x : List ℕ). front ++ take (end - i) x) behind)
+    where
+      sum : end - at ≡ i - at + (end - i)
+      sum = omega (arith, p.on)
+
+  pub passed-on : (end : ℕ) → Passed s i end → Passed s at end
+  passed-on end q =
+      record {
+        part = p.part ∙ ap (λ (x : List ℕ). front ++ x) q.part ∙ sym (append_assoc front (take (end - i) (drop i s)) (until (byte ";") (drop end s)))
+            ∙ ap (λ (x : List ℕ). x ++ until (byte ";") (drop end s)) (joined end q.on);
+        on = omega (arith, p.on, q.on);
+      }
+
+  pub passed-more : i < length s → (get_or s i 0 ≡ byte ";" → ⊥) → Passed s at (i + 1)
+  passed-more h n = passed-on (i + 1) (passed-one s i h n)
+
+  pub semicolon-on : (end : ℕ) → SemicolonAt s i end → SemicolonAt s at end
+  semicolon-on end semi =
+      record {
+        part = p.part ∙ ap (λ (x : List ℕ). front ++ x) semi.part ∙ joined end semi.on;
+        stop = semi.stop;
+        inside = semi.inside;
+        on = omega (arith, p.on, semi.on);
+      }
+
+  pub none-on : NoSemicolon s i → NoSemicolon s at
+  none-on none = p.part ∙ ap (λ (x : List ℕ). front ++ x) (none ∙ sym behind) ∙ take-append-drop (i - at) (drop at s)
 
 passed-stop : (s : List ℕ) (at i : ℕ) → Passed s at i → until (byte ";") (drop i s) ≡ [] → until (byte ";") (drop at s) ≡ take (i - at) (drop at s)
 passed-stop s at i p e = p.part ∙ ap (λ (x : List ℕ). take (i - at) (drop at s) ++ x) e ∙ append-nil (take (i - at) (drop at s))

@@ -3,6 +3,7 @@ mod Flags
 mod Quotes
 mod Floats
 pub mod PlainFloats
+mod Decimals
 mod Heads
 mod Scalars
 pub mod Printed

@@ -204,11 +204,6 @@ read-digits l top t q e =
     let a = bind_ok (require (ltb 0 (length (digits_of t))) 2 l) _ q e in
     ltb→lt 0 (length (digits_of t)) (require-ok (ltb 0 (length (digits_of t))) 2 l a.0 a.1)
 
--- what follows a sign begins with digits
-some-digits : (top : ℕ) (t : List ℕ) (q : (ℕ × ℕ) × List ℕ) → signed_text top 0 t ≡ ok q → 0 < length (digits_of t)
-unfolding signed_text
-some-digits top t q e = let a = bind_ok (digits 0 top t) _ q e in read-digits 0 top t a.0 a.1
-
 -- ---- integers
 
 module _ (s : List ℕ) (at : ℕ) (negative : Bool) (top : ℕ) (run : Text) (n : Found (digits_text top) value_told s at run) where
@@ -268,16 +263,6 @@ module _ (s : List ℕ) (at : ℕ) where
 
     pub int_is : (r : Scan) → Scans (signed_text (integer_limit g)) (signed_told (is_minus g)) s from r → Scans int_text literal_told s at r
     int_is r h = scans-part h (omega (arith, sg.on)) (literal g) opened (λ x next. ap (λ (w : ℕ). tell w 0 0 next) (sign_word g x.0 x.1))
-
-  -- one that is found without a sign
-  pub int_unsigned : eqb (byte_at s at) (byte ":") ≡ true → (r : Scan) → Scans (signed_text (integer_limit unsigned)) (signed_told false) s (at + 1) r
-      → (l : ℕ) (t : Text) → scan_answer l r ≡ ok t → Scans int_text literal_told s at r
-  int_unsigned colon r h l t e =
-      int_is colon unsigned (at + 1)
-      (record {
-        is = digits_unsigned (drop (at + 1) s) (some-digits (integer_limit unsigned) (drop (at + 1) s) _ ((h.found l t e).is 0));
-        on = omega arith;
-      }) r h
 
   pub int-front : eqb (byte_at s at) (byte ":") ≡ true → (f : Front) (h : FrontIs s (at + 1) f) (r : Scan)
       → Scans (signed_text f.top) (signed_told f.negative) s f.from r → Scans int_text literal_told s at r

@@ -11,7 +11,7 @@ use Rattle.format.specs.Syntax.{null, bool, int, float, string}
 use Rattle.format.specs.Answer.{ok}
 use Rattle.format.specs.Read.{kind_of, expect, int_text, quoted_text, bool_text, float_text, scalar_text}
 use Rattle.format.proofs.Answers.{bind-map}
-use Rattle.scanner.specs.Scans.{Scan, Scans, null_text, scalar_behind, nothing_told, bool_told, literal_told, float_told}
+use Rattle.scanner.specs.Scans.{Answers, Scan, Scans, null_text, scalar_behind, nothing_told, bool_told, literal_told, float_told}
 use Rattle.scanner.specs.Scans.{Scan, quoted_told, scalar_told}
 use Rattle.scanner.specs.Parts.{Sure}
 use Rattle.scanner.proofs.Numbers.{scans_not, scans-map, scans-same}
@@ -46,6 +46,10 @@ module _ (s : List ℕ) (at b : ℕ) (r : Scan) where
   scalar-string e h = of-kind Kind.string (λ l. rw e) (scans-map string (λ l s. refl) (λ x next. refl) h)
 
 -- a tag that the code knows
+pub answers_as : (s : List ℕ) (at b : ℕ) (r : Scan) {k : ℕ} → b ≡ k → Answers (scalar_behind k) (scalar_told at) s at r
+    → Answers (scalar_behind b) (scalar_told at) s at r
+answers_as s at b r e h = subst (λ (x : ℕ). Answers (scalar_behind x) (scalar_told at) s at r) (sym e) h
+
 pub tag_as : (s : List ℕ) (at b : ℕ) (r : Scan) {k : ℕ} → b ≡ k → Sure (scalar_behind k) (scalar_told at) s at r → Sure (scalar_behind b) (scalar_told at) s at r
 tag_as s at b r e h = subst (λ (x : ℕ). Sure (scalar_behind x) (scalar_told at) s at r) (sym e) h
 

@@ -1,9 +1,9 @@
--- What the private scans of parts of a text promise; nothing public rests on it.
-use Rattle.std.specs.Prelude.{Result, Ok, Err, eqb, ◌≡◌, List, Bool, true, false, ℕ, ◌-◌, ◌≤◌, ◌<◌, length, get_or, take, drop}
+-- What the private scans of parts of a text promise; of what is public, `plain_end` alone says one of these (`PlainEnd`) beside its answer.
+use Rattle.std.specs.Prelude.{Result, Ok, Err, eqb, ◌≡◌, List, ◌++◌, Bool, true, false, ℕ, ◌-◌, ◌≤◌, ◌<◌, length, get_or, take, drop}
 use Rattle.decimal.specs.Complement.{pattern}
 use Rattle.format.specs.Bytes.{byte, bytes}
 use Rattle.format.specs.Syntax.{Sign, unsigned, plus, minus}
-use Rattle.format.specs.Limits.{integer_limit, sign_of, is_float}
+use Rattle.format.specs.Limits.{integer_limit, sign_of, is_exponent, is_float}
 use Rattle.format.specs.Answer.{ok, ◌>>=◌}
 use Rattle.format.specs.Read.{expect, until, digits, Reader}
 use Rattle.bytes_at.specs.ByteAt.{byte_at}
@@ -58,9 +58,19 @@ pub record SemicolonAt (s : List ℕ) (at next : ℕ) : Type 0 where
   pub inside : next < length s
   pub on : at ≤ next
 
+-- from `at` to i no semicolon stands
+pub record Passed (s : List ℕ) (at i : ℕ) : Type 0 where
+  pub part : until (byte ";") (drop at s) ≡ take (i - at) (drop at s) ++ until (byte ";") (drop i s)
+  pub on : at ≤ i
+
 -- no semicolon stands there
 abbrev pub NoSemicolon : (s : List ℕ) (at : ℕ) → Type 0
 NoSemicolon s at = until (byte ";") (drop at s) ≡ drop at s
+
+-- nothing or an exponent, and a semicolon
+pub record ExponentEnd (s : List ℕ) (at end : ℕ) : Type 0 where
+  pub exponent : is_exponent (until (byte ";") (drop at s)) ≡ true
+  pub semicolon : SemicolonAt s at end
 
 -- a float text that ends at a semicolon
 pub record PlainEnd (s : List ℕ) (from end : ℕ) : Type 0 where

@@ -1,15 +1,18 @@
 -- What the public scans promise: the definition's answer from their index on, and what the text tells its node.
-use Rattle.std.specs.Prelude.{Result, Ok, Err, ◌≡◌, List, [], Bool, ℕ, ◌+◌, ◌-◌, ◌≤◌, ◌<◌, length, drop}
-use Rattle.format.specs.Bytes.{bytes}
+use Rattle.std.specs.Prelude.{Result, Ok, Err, Option, ◌≡◌, List, [], ◌∷◌, Bool, true, ◌&&◌, not, eqb, ℕ, ◌+◌, ◌-◌, ◌≤◌, ◌<◌, length, drop}
+use Rattle.std.specs.Bool.{then_some}
+use Rattle.decimal.specs.Digits.{digits_of, after_digits}
+use Rattle.format.specs.Bytes.{byte, bytes, is_empty}
 use Rattle.format.specs.Tree.{one}
 use Rattle.format.specs.Kind.{scalar_kinds, tag}
 use Rattle.format.specs.Syntax.{null, bool, int, float, string, Scalar, array, object, Spelling, Literal, Quoted, Container, write_number}
 use Rattle.format.specs.Keys.{integer}
 use Rattle.format.specs.Answer.{Answer, ok, refused, ◌>>=◌}
-use Rattle.format.specs.Read.{Reader, expect, scalar_text, kind_of}
+use Rattle.format.specs.Read.{Reader, expect, until, scalar_text, kind_of}
 use Rattle.format.specs.Table.{word}
 use Rattle.format.specs.declared.codes.Code.{Code}
 use Rattle.format.specs.Codes.{number_of}
+use Rattle.bytes_at.specs.ByteAt.{byte_at}
 use Rattle.scanner.specs.declared.Text.{Text}
 
 -- what a text tells its node, the index after it being `next`
@@ -20,7 +23,7 @@ Told A = A → (next : ℕ) → Text
 abbrev pub Scan : Type 0
 Scan = Result Text Code
 
--- the paper's number and values for each case of the enum, the tag standing at an index that the caller knows:
+-- the paper's number and values for each case, the tag standing at an index that the caller knows:
 -- "A refusal returns its number and a position"; of 2, 3 and 5 that is the letter's
 abbrev pub scan_answer : (at : ℕ) → Scan → Answer Text
 scan_answer at (Ok x) = ok x
@@ -101,3 +104,23 @@ container_told at (object q) link next = tell (quoted_told at q next).content (l
 
 abbrev pub head_told : (at : ℕ) → Told (Container × (Spelling × ℕ))
 head_told at h next = container_told at h.0 h.1.1 next
+
+-- ---- float texts of digits with at most one point, which need no other look
+
+-- nothing, or a point and digits alone
+abbrev pub is_fraction : List ℕ → Bool
+is_fraction [] = true
+is_fraction (b ∷ t) = eqb (byte ".") b && is_empty (after_digits t)
+
+-- digits, and such a fraction
+abbrev pub is_plain : List ℕ → Bool
+is_plain t = not (is_empty (digits_of t)) && is_fraction (after_digits t)
+
+-- the index of the next semicolon, or the source's length
+abbrev pub semicolon_from : (s : List ℕ) (from : ℕ) → ℕ
+semicolon_from s from = from + length (until (byte ";") (drop from s))
+
+-- that index, if such a text stands before it and the semicolon is there
+unfoldable pub plain_float_end : (s : List ℕ) (from : ℕ) → Option ℕ
+plain_float_end s from =
+    then_some (is_plain (until (byte ";") (drop from s)) && eqb (byte_at s (semicolon_from s from)) (byte ";")) (semicolon_from s from)

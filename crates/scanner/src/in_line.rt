@@ -1,26 +1,31 @@
 // Texts of scalars where most time goes: those that keys (an i without a sign, an s) and values (an N, an i without a sign, a plain d) mostly have stay in the
-// loop over the pairs, by hints, as do the digits in them. All others go by `scalar`, a call. Both functions promise what `scalar` does.
+// loop over the pairs, as do the digits in them: by hints, N and s by their size. All others go by `scalar`, a call. Both functions promise what `scalar` does.
 ghost use Rattle.std.specs.Prelude.{◌≡◌};
 ghost use Rattle.scanner.specs.Scans.{Answers, scalar_behind, scalar_told};
 ghost use Rattle.scanner.specs.Parts.{Sure};
 
 use crate::flag::null;
 use crate::float::plain_end;
-use crate::number::{POSITIVE_LIMIT, magnitude};
+use crate::number::{POSITIVE_LIMIT, int, magnitude};
 use crate::quoted::quoted;
 use crate::scalar::{STRING_END, scalar};
 use crate::{Text, expect};
+use bytes_at::byte_is;
 use format::codes::Code;
 use format::kind::Kind;
 
-// The text of an i without a sign; what is refused may be an i all the same.
+// The text of an i. One with a sign goes by `scalar`, so that what is found in line is the answer, refused or not, and no digit is looked at twice.
 // Not `int`: tried, and reading a list of integer keys then took 24 % more instructions.
 #[inline(always)]
-fn unsigned(source: &[u8], at: usize) -> Result<Text, Code>
-    ensures { Sure (scalar_behind 105) (scalar_told at) source.now at result }
+fn integer(source: &[u8], at: usize) -> Result<Text, Code>
+    ensures { Answers (scalar_behind 105) (scalar_told at) source.now at result }
 {
     expect(source, at, b':')?;
-    magnitude(source, at + 1, false, POSITIVE_LIMIT)
+    let from = at + 1;
+    if byte_is(source, from, b'+') || byte_is(source, from, b'-') {
+        return Ok(int(source, at)?);
+    }
+    magnitude(source, from, false, POSITIVE_LIMIT)
 }
 
 // The text of a d of digits with at most one point; what is refused may be a d all the same.
@@ -60,7 +65,7 @@ pub fn key(source: &[u8], at: usize, tag: u8) -> Result<Text, Code>
     ensures { Answers (scalar_behind tag) (scalar_told at) source.now at result }
 {
     match tag {
-        Kind::INT => or_scalar(unsigned(source, at), source, at, tag),
+        Kind::INT => integer(source, at),
         Kind::STRING => quoted(source, at, STRING_END),
         _ => Ok(scalar(source, at, tag)?),
     }
@@ -73,7 +78,7 @@ pub fn value(source: &[u8], at: usize, tag: u8) -> Result<Text, Code>
 {
     match tag {
         Kind::NULL => null(source, at),
-        Kind::INT => or_scalar(unsigned(source, at), source, at, tag),
+        Kind::INT => integer(source, at),
         Kind::FLOAT => or_scalar(plain(source, at), source, at, tag),
         _ => Ok(scalar(source, at, tag)?),
     }

@@ -4,7 +4,7 @@
 // `plain_end`, by which rewriting passes floats; the texts of single kinds are private. Reader, tokens, placing and rewriting call them. A key is scanned as
 // the scalar that it would be, once its tag was looked at: keys and values have one definition of their texts, `scalar_behind`.
 // One shape of promise (`Answers`): the answer (`scan_answer`) is what the definition reads from that index on, as words 2, 3 and 4 of the node (`text_answer`);
-// and, for those who go on reading, what was read (`Scans`); both wherever the tag stands.
+// and, for those who go on reading, what was read (`Scans`); both wherever the tag stands. `plain_end` answers no scan, but an index: `plain_float_end`.
 #![tactic(auto)]
 
 ghost use Rattle.scanner.specs.Parts.{Expects};

@@ -93,6 +93,7 @@ fn sign_at(source: &[u8], at: usize) -> Front
 }
 
 // An integer.
+#[inline(never)]
 pub(crate) fn int(source: &[u8], at: usize) -> Result<Text, Code>
     ensures { Answers int_text literal_told source.now at result }
 {
@@ -102,7 +103,7 @@ pub(crate) fn int(source: &[u8], at: usize) -> Result<Text, Code>
 }
 
 // A *number* of the grammar, which "may have one leading `+`". The plus is looked for only where no digit stands: hardly a number has one, and its digits
-// are scanned in one place, so that LLVM keeps them in line (in_line.rt).
+// are scanned in one place: they are in line, and the loop has them once.
 pub(crate) fn number(source: &[u8], at: usize) -> Result<Text, Code>
     ensures { Scans number value_told source.now at result }
 {

@@ -16,7 +16,7 @@ pub(crate) fn quoted(source: &[u8], at: usize, close: u8) -> Result<Text, Code>
     let run = number(source, at + 1)?;
     let colon = run.next;
     let size = run.content as usize;
-    // One test of the room for all that follows: each refusal is the same, and LLVM keeps a function of this size in line (in_line.rt).
+    // One test of the room for all that follows: each refusal is the same, and LLVM keeps a function of this size in line.
     if source.len() - colon < size + 4 {
         return Err(Code::TextUnfit);
     }

@@ -13,6 +13,7 @@ use format::kind::Kind;
 pub(crate) const STRING_END: u8 = b';';
 
 // The text of a scalar with this tag; any other tag is refused with 3.
+#[inline(never)]
 pub fn scalar(source: &[u8], at: usize, tag: u8) -> Result<Text, Code>
     ensures { Answers (scalar_behind tag) (scalar_told at) source.now at result }
 {

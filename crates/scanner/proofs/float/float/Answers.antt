@@ -1,15 +1,16 @@
 -- `scanner::float::float` meets its contract. Assumes nothing.
 use mathlib.Core.Path.{◌≡◌, sym, refl, ◌∙◌}
 use mathlib.Core.Bool.{true}
+use Prim.Native.Nat.{◌+◌}
 use native.Mathlib.Omega.{arith}
-use lib.Dec.{eqb, lit<}
-use Rattle.std.proofs.lemmas.Option.{MatchOption-at_some, MatchOption-at_none}
+use lib.Dec.{eqb}
 use Rattle.format.specs.Bytes.{byte}
 use Rattle.bytes_at.specs.ByteAt.{byte_at}
-use Rattle.bytes_at.proofs.BytesAt.{byte-there}
+use Rattle.scanner.specs.Parts.{PlainEnd}
 use Rattle.scanner.proofs.Floats as floats
 use Rattle.scanner.proofs.Numbers.{exits, answered}
 use Rattle.scanner.proofs.float.float.Goals as goal
+use Rattle.scanner.proofs.float.float.Goals.{in-Ok, in-Err+in-Some+else-not-is_float}
 
 pub returns-in_err-expect : goal.returns-in_err-expect
 returns-in_err-expect c =
@@ -18,19 +19,22 @@ returns-in_err-expect c =
 pub returns-in_default : goal.returns-in_default
 returns-in_default c =
     let colon : eqb (byte_at c.args.source.now c.args.at) (byte ":") ≡ true = c.in_ok-expect.ensures.0 in
-    answered (floats.float_open _ _ colon (omega (arith, byte-there _ _ (byte ":") (lit< tt) colon)) (MatchOption-at_none _ _ c.in_default.is c.semicolon_at.ensures))
-
-pub slice_bounds-is_float-end : goal.slice_bounds-is_float-end
-slice_bounds-is_float-end c = let semi = MatchOption-at_some _ _ _ c.in-Some.is c.semicolon_at.ensures in omega (arith, semi.inside, semi.on)
+    answered (floats.float_open _ _ colon (omega (arith, c.in_ok-expect.ensures.1)) (floats.none-on _ _ _ c.in-Err.ensures c.in_default.ensures))
 
 pub returns-then-not-is_float : goal.returns-then-not-is_float
 returns-then-not-is_float c =
     let colon : eqb (byte_at c.args.source.now c.args.at) (byte ":") ≡ true = c.in_ok-expect.ensures.0 in
-    let semi = MatchOption-at_some _ _ _ c.in-Some.is c.semicolon_at.ensures in
+    let semi = floats.semicolon-on _ _ _ c.in-Err.ensures _ c.in-Some.ensures in
     answered (floats.float_not _ _ colon _ semi (sym c.is_float.ensures ∙ c.if-not-is_float.true))
 
 pub returns : goal.returns
 returns c =
     let colon : eqb (byte_at c.args.source.now c.args.at) (byte ":") ≡ true = c.in_ok-expect.ensures.0 in
-    let semi = MatchOption-at_some _ _ _ c.in-Some.is c.semicolon_at.ensures in
-    answered (floats.float_is _ _ colon _ semi (sym c.is_float.ensures ∙ c.if-not-is_float.false) _ refl _ refl)
+    let ended : PlainEnd c.args.source.now (c.args.at + 1) c.match-decimal_end.end = elim c.match-decimal_end.branch [
+      | in-Ok w ↦ rw w.end-is w.in-Ok.ensures
+      | in-Err+in-Some+else-not-is_float w ↦ rw w.end-is record {
+        semicolon = floats.semicolon-on _ _ _ w.in-Err.ensures _ w.in-Some.ensures;
+        float = sym w.is_float.ensures ∙ w.if-not-is_float.false;
+      }
+    ] in
+    answered (floats.float_is _ _ colon _ ended.semicolon ended.float _ refl _ refl)

@@ -1,6 +1,6 @@
 -- `scanner::float::semicolon_at` meets its contract. Assumes nothing.
-use Rattle.scanner.proofs.Floats as floats
+use Rattle.scanner.specs.Parts.{Passed}
 use Rattle.scanner.proofs.float.semicolon_at.Given as goal
 
 abbrev pub invariant-loop-i : goal.invariant-loop-i
-invariant-loop-i l = floats.Passed l.source l.at l.i
+invariant-loop-i l = Passed l.source l.at l.i

@@ -6,7 +6,7 @@ use Rattle.rewriting.proofs.output.Output.append.Goals as goal
 pub returns : goal.returns
 returns c = record {
   end = search rules;
-  text = outputs.stores _ c.args.text.now _ c.min-start.ensures c.min-count.ensures (c.copy_from_slice.ensures.after ∙ refl);
+  text = outputs.stores _ c.args.text.now _ c.min-start.ensures c.min-count.ensures (c.copy.ensures ∙ refl);
   lent = search rules;
   room = search rules;
 }
