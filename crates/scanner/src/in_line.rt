@@ -1,5 +1,6 @@
 // Texts of scalars where most time goes: those that keys (an i without a sign, an s) and values (an N, an i without a sign, a plain d) mostly have stay in the
-// loop over the pairs, as do the digits in them: by hints, N and s by their size. All others go by `scalar`, a call. Both functions promise what `scalar` does.
+// loop over the pairs, as do the digits in them: by hints, N and s by their size. All others go by calls, `int` and `scalar`. Both functions promise what
+// `scalar` does.
 ghost use Rattle.std.specs.Prelude.{◌≡◌};
 ghost use Rattle.scanner.specs.Scans.{Answers, scalar_behind, scalar_told};
 ghost use Rattle.scanner.specs.Parts.{Sure};
@@ -14,7 +15,7 @@ use bytes_at::byte_is;
 use format::codes::Code;
 use format::kind::Kind;
 
-// The text of an i. One with a sign goes by `scalar`, so that what is found in line is the answer, refused or not, and no digit is looked at twice.
+// The text of an i. One with a sign goes by a call, so that what is found in line is the answer, refused or not, and no digit is looked at twice.
 // Not `int`: tried, and reading a list of integer keys then took 24 % more instructions.
 #[inline(always)]
 fn integer(source: &[u8], at: usize) -> Result<Text, Code>

@@ -92,7 +92,7 @@ fn sign_at(source: &[u8], at: usize) -> Front
     }
 }
 
-// An integer.
+// An integer. A call, as `scalar` is: in line, LLVM keeps what the loop over the pairs needs in memory while it goes over a key's digits.
 #[inline(never)]
 pub(crate) fn int(source: &[u8], at: usize) -> Result<Text, Code>
     ensures { Answers int_text literal_told source.now at result }
